@@ -42,8 +42,11 @@ class Server:
         found = re.fullmatch(rb"listening (\d+)\n", self.first)
         self.port = int(found.group(1)) if found else None
         self.path = words[words.index("--socket") + 1] if "--socket" in words else None
-        # The line of the port comes first.
+        # The line of the port comes first, and that of the HTTP port last.
         self.second = self.program.stdout.readline() if self.port and self.path else b""
+        self.last = self.program.stdout.readline() if self.first and "--http" in words else b""
+        found = re.fullmatch(rb"http (\d+)\n", self.last)
+        self.http = int(found.group(1)) if found else None
         # Without a number it serves until it is killed.
         self.connections = self.left = int(words[words.index("--connections") + 1]) if "--connections" in words else 0
         self.counting = threading.Lock()

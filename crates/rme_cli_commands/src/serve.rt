@@ -8,12 +8,14 @@ ghost use Rattle.rme_cli_commands.specs.FinalReports.{FinalReportSays};
 use crate::final_report::{FinalReport, end_with, report_service};
 use log::sink::Console;
 use log::{Level, Logged, info};
+use rme_cli_http::{HttpPort, MeteredSite, ServicePages, serve_metered};
 use rme_cli_keys::{KeysFile, keyed, open_keys};
 use rme_cli_listen::{BoundServer, StderrObserver, listen};
 use rme_cli_messages::{CliFault, why_not_locks, why_not_sizes};
 use rme_cli_options::{Diagnostics, ServeTask, ServerLog};
 use rme_line_diagnose::SessionWords;
-use rme_server::{Listener, ServeFault, ServerLimits, SessionRegistry, Slots, serve};
+use rme_metrics::ServerCounters;
+use rme_server::{Listener, ServeFault, ServerLimits, SessionRegistry, Slots};
 use rme_table::{CountRoom, Down, Service, Tag};
 use rme_wire::{GivenNames, Names};
 use rme_words::Shape;
@@ -34,6 +36,7 @@ pub fn run_serve<R: Threads + Wait + Clock + Sync>(
     let limits = limits_of(&task);
     let ServeTask {
         places,
+        http,
         log,
         keys,
         locks,
@@ -50,10 +53,12 @@ pub fn run_serve<R: Threads + Wait + Clock + Sync>(
         Err(refused) => return Ok(refused.status()),
     };
     let connections = limits.connections;
+    let http = HttpPort::listen(rt, http)?;
     let (listeners, bound) = listen(rt, places, limits)?;
     let host = ServeContext {
         rt,
         bound,
+        http,
         connections,
         log,
         keys,
@@ -94,16 +99,28 @@ fn shape_of(task: &ServeTask) -> Result<Shape, CliFault> {
     }
 }
 
-/// A server's addresses and acceptor, the number of connections that it serves if there is a limit, its log, its keys
-/// if it has some, and the names of the locks.
+/// A server's addresses and acceptor, its HTTP port if it has one, the number of connections that it serves if there is
+/// a limit, its log, its keys if it has some, and the names of the locks.
 #[derive(Drop)]
 struct ServeContext<'a> {
     rt: &'a HostRuntime,
     bound: BoundServer,
+    http: Option<HttpPort>,
     connections: Option<u32>,
     log: ServerLog,
     keys: Option<KeysFile<'a>>,
     names: &'a Names,
+}
+
+impl ServeContext<'_> {
+    /// Prints a line for each address, and for the HTTP port.
+    fn print_addresses(&self) -> Result<(), CliFault> {
+        self.bound.addresses.print(self.rt)?;
+        match &self.http {
+            Some(http) => http.print(self.rt),
+            None => Ok(()),
+        }
+    }
 }
 
 /// Serves the workers of a new service of this shape, prints the final state of its locks, and answers the status.
@@ -116,7 +133,7 @@ fn serve_workers<R: Threads + Wait + Clock + Sync>(
     let (service, downs) = Service::new(host.rt.alloc(), shape)?;
     let room = service.room_for_counts()?;
     let closing = FinalReport::with_room(host.rt.alloc())?;
-    host.bound.addresses.print(host.rt)?;
+    host.print_addresses()?;
     let (downs, served) = serve_all::<Brand, R>(threads, host, listeners, &service, downs)?;
     log_served(host.rt, host.connections.unwrap_or(0));
     let status = close(host, service, downs, room, closing)?;
@@ -174,23 +191,21 @@ fn serve_all<'s, K: Tag + Send + Sync, R: Threads + Wait + Clock + Sync>(
         names: host.names,
         registry: &registry,
     };
-    let complaints = StderrObserver::new(host.rt, host.log);
+    let counters = ServerCounters::new();
+    let site = MeteredSite {
+        acceptor: &host.bound.acceptor,
+        observer: &StderrObserver::new(host.rt, host.log),
+        http: host.http.as_ref(),
+        counters: &counters,
+        pages: &ServicePages {
+            alloc,
+            counters: &counters,
+        },
+    };
     let workers = service.shape().workers();
     let served = match keyed(&host.keys, &shared, workers) {
-        Some(keyed) => serve(
-            threads,
-            listeners,
-            &host.bound.acceptor,
-            &complaints,
-            &keyed,
-        ),
-        None => serve(
-            threads,
-            listeners,
-            &host.bound.acceptor,
-            &complaints,
-            &shared,
-        ),
+        Some(keyed) => serve_metered(threads, listeners, &site, &keyed),
+        None => serve_metered(threads, listeners, &site, &shared),
     };
     Ok((slots.into_downs_in(threads, room), served))
 }

@@ -3,8 +3,10 @@
 ghost use Rattle.std.specs.Prelude.{◌≡◌, [], IfOk, true};
 ghost use Rattle.rme_durable_server.specs.ServerHistories.{server_state};
 
-use crate::log_of_state::{StateAndLog, state_and_log};
+use crate::log_of_state::{ServedLog, StateAndLog, state_and_log};
 use crate::requested_state::{Growth, ServerConfig, first_lines, growth_of};
+use crate::state_pages::StatePages;
+use rme_cli_http::{HttpPort, MeteredSite, serve_metered};
 use rme_cli_keys::{KeysFile, keyed, open_keys};
 use rme_cli_listen::{BoundServer, StderrObserver, listen};
 use rme_cli_messages::{BadArgument, CliFault, Stderr, escape_controls};
@@ -12,15 +14,17 @@ use rme_cli_options::{
     Diagnostics, DurableServeTask, ListenAddresses, ServerLog, SyncPolicy, WaitingPolicy,
 };
 use rme_durable_file::{
-    OpenedState, RecoveredFile, StateFile, StateName, SystemFile, check_replaceable, make_state,
+    OpenedState, RecoveredFile, StateName, SystemFile, check_replaceable, make_state,
     open_state_file,
 };
 use rme_durable_log::NotDurable;
 use rme_durable_lookups::clients_of;
 use rme_durable_server::{DurableServer, ServerSetting, ServerTag, WaitingJobs};
 use rme_line_diagnose::{Reason, SessionWords};
+use rme_line_io::ServeFault;
+use rme_metrics::{LogCounters, ServerCounters};
 use rme_session_loop::{Backend, SessionEvent};
-use rme_session_server::{Closer, Listener, ServerLimits, ServerObserver, serve};
+use rme_session_server::{Closer, Listener, ServerLimits, ServerObserver};
 use std::io;
 use std::marker::Brand;
 use std::sync::Wait;
@@ -40,6 +44,7 @@ pub fn run_serve_durable<R: Threads + Wait + Clock + Sync>(
     let limits = limits_of(&task);
     let setting = setting_of(&task);
     let log = task.log;
+    let http = task.http;
     let (asked, places, keys) = split_task(task);
     let keys = match open_keys(rt, keys) {
         Ok(keys) => keys,
@@ -47,18 +52,22 @@ pub fn run_serve_durable<R: Threads + Wait + Clock + Sync>(
     };
     let name = StateName::new(String::from_str(rt.alloc(), asked.path.as_str())?);
     let planned = plan_start(rt, &asked, &name)?;
+    let http = HttpPort::listen(rt, http)?;
     let (listeners, bound) = listen(rt, places, limits)?;
+    let writes = LogCounters::new();
     let site = DurableServeContext {
         rt,
         bound,
+        http,
         log,
         keys,
         name: &name,
         setting,
+        writes: &writes,
     };
     let served = match open_or_create(rt, &asked, &name, planned) {
         Ok(opened) => {
-            let state = state_and_log(opened);
+            let state = state_and_log(rt, site.counted_writes(), opened);
             serve_logged::<Brand, R>(threads, &site, listeners, state)
         }
         Err(fault) => {
@@ -70,15 +79,37 @@ pub fn run_serve_durable<R: Threads + Wait + Clock + Sync>(
     served
 }
 
-/// A durable server's addresses and acceptor, its log, its keys if it has some, and its file.
+/// A durable server's addresses and acceptor, its HTTP port if it has one, its log, its keys if it has some, its file,
+/// and the counters of the file's writes.
 #[derive(Drop)]
 struct DurableServeContext<'a> {
     rt: &'a HostRuntime,
     bound: BoundServer,
+    http: Option<HttpPort>,
     log: ServerLog,
     keys: Option<KeysFile<'a>>,
     name: &'a StateName,
     setting: ServerSetting,
+    writes: &'a LogCounters,
+}
+
+impl<'a> DurableServeContext<'a> {
+    /// The counters of the file's writes, if somebody can see what they tell.
+    fn counted_writes(&self) -> Option<&'a LogCounters> {
+        match self.http {
+            Some(_) => Some(self.writes),
+            None => None,
+        }
+    }
+
+    /// Prints a line for each address, and for the HTTP port.
+    fn print_addresses(&self) -> Result<(), CliFault> {
+        self.bound.addresses.print(self.rt)?;
+        match &self.http {
+            Some(http) => http.print(self.rt),
+            None => Ok(()),
+        }
+    }
 }
 
 /// The plan of a start: nothing was changed yet.
@@ -109,14 +140,14 @@ fn serve_logged<J: ServerTag + Send + Sync, R: Threads + Wait + Clock + Sync>(
     } = state;
     let alloc = site.rt.alloc();
     let workers = clients_of(executor.executor().world());
-    let kept = DurableServer::<StateFile<'_, SystemFile<'_>>, Closer, J>::new(
+    let kept = DurableServer::<ServedLog<'_>, Closer, J>::new(
         alloc,
         names,
         executor,
         site.setting,
         log,
     )?;
-    site.bound.addresses.print(site.rt)?;
+    site.print_addresses()?;
     serve_durable_state(threads, site, listeners, &kept, workers)
 }
 
@@ -172,13 +203,13 @@ fn split_task(task: DurableServeTask) -> (ServerConfig, ListenAddresses, Option<
     (asked, places, keys)
 }
 
-/// Serves a durable state of this number of workers on these listeners, once no job waits without a session if such jobs are withdrawn. If an
-/// event cannot be logged, this is reported at the end.
+/// Serves a durable state of this number of workers on these listeners, once no job waits without a session if such jobs
+/// are withdrawn. If an event cannot be logged, this is reported at the end.
 fn serve_durable_state<'f, J: ServerTag + Send + Sync, R: Threads + Wait + Clock + Sync>(
     threads: &R,
     site: &DurableServeContext<'_>,
     listeners: (Listener, Option<Listener>),
-    kept: &DurableServer<StateFile<'f, SystemFile<'f>>, Closer, J>,
+    kept: &DurableServer<ServedLog<'f>, Closer, J>,
     workers: u32,
 ) -> Result<u8, CliFault> {
     let complaints = StderrObserver::new(site.rt, site.log);
@@ -189,10 +220,7 @@ fn serve_durable_state<'f, J: ServerTag + Send + Sync, R: Threads + Wait + Clock
         kept,
     };
     let served = match kept.withdraw_waiting_jobs(threads, &observer) {
-        Ok(()) => match keyed(&site.keys, kept, workers) {
-            Some(keyed) => serve(threads, listeners, &site.bound.acceptor, &observer, &keyed),
-            None => serve(threads, listeners, &site.bound.acceptor, &observer, kept),
-        },
+        Ok(()) => serve_clients(threads, site, listeners, &observer, workers),
         Err(NotDurable) => Ok(()),
     };
     site.name.tell(site.rt, complaints.stderr());
@@ -205,6 +233,35 @@ fn serve_durable_state<'f, J: ServerTag + Send + Sync, R: Threads + Wait + Clock
     }
 }
 
+/// Serves the clients of a durable state of this number of workers on these listeners, and its pages on the HTTP port.
+fn serve_clients<'x, J: ServerTag + Send + Sync, R: Threads + Wait + Clock + Sync>(
+    threads: &R,
+    site: &'x DurableServeContext<'x>,
+    listeners: (Listener, Option<Listener>),
+    observer: &'x StateObserver<'x, '_, J, R>,
+    workers: u32,
+) -> Result<(), ServeFault> {
+    let kept = observer.kept;
+    let counters = ServerCounters::new();
+    let metered = MeteredSite {
+        acceptor: &site.bound.acceptor,
+        observer,
+        http: site.http.as_ref(),
+        counters: &counters,
+        pages: &StatePages {
+            rt: site.rt,
+            kept,
+            counters: &counters,
+            log: site.writes,
+            path: site.name.path(),
+        },
+    };
+    match keyed(&site.keys, kept, workers) {
+        Some(keyed) => serve_metered(threads, listeners, &metered, &keyed),
+        None => serve_metered(threads, listeners, &metered, kept),
+    }
+}
+
 /// Observes a durable server: each second it checks whether the state's file still has its name, without which nothing
 /// may be answered, and reports faults of the file.
 #[derive(Drop)]
@@ -212,7 +269,7 @@ struct StateObserver<'a, 'f, J: ServerTag, R> {
     complaints: &'a StderrObserver<'a>,
     threads: &'a R,
     name: &'a StateName,
-    kept: &'a DurableServer<StateFile<'f, SystemFile<'f>>, Closer, J>,
+    kept: &'a DurableServer<ServedLog<'f>, Closer, J>,
 }
 
 impl<J: ServerTag, R: Wait> ServerObserver for StateObserver<'_, '_, J, R> {

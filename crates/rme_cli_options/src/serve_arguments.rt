@@ -33,7 +33,7 @@ fn size<'a>(name: &'a str, help: &'a str) -> ArgumentSpec<'a> {
 }
 
 /// Where it listens.
-pub(crate) fn addresses<'a>() -> [ArgumentSpec<'a>; 2] {
+pub(crate) fn addresses<'a>() -> [ArgumentSpec<'a>; 3] {
     [
         ArgumentSpec {
             presence: ArgumentPresence::RequiredWithout(&["socket", "state", "spaces"]),
@@ -48,6 +48,12 @@ pub(crate) fn addresses<'a>() -> [ArgumentSpec<'a>; 2] {
             "socket",
             "PATH",
             "The Unix socket to listen on, in place of the port or beside it, for this user alone",
+        ),
+        option_of(
+            ArgumentValue::Port,
+            "http",
+            "N",
+            "The port of metrics and, with --state or --spaces, of a page to look at; 0 takes a free one",
         ),
     ]
 }

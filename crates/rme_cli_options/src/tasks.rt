@@ -100,6 +100,8 @@ pub struct ServeTask {
     pub cells: u32,
     pub jobs: u32,
     pub places: ListenAddresses,
+    /// The HTTP port, if it has one; a free one for 0.
+    pub http: Option<u16>,
     /// The number of connections, or until it is killed.
     pub connections: Option<u32>,
     /// The greatest number of sessions at a time.
@@ -143,6 +145,8 @@ pub struct DurableServeTask {
     /// The number of finished jobs after which the state's file is replaced by a checkpoint.
     pub sections: u32,
     pub places: ListenAddresses,
+    /// The HTTP port, if it has one; a free one for 0.
+    pub http: Option<u16>,
     /// The greatest number of sessions at a time.
     pub at_once: u32,
     /// The number of seconds of silence that end a session, if any.
@@ -165,6 +169,8 @@ pub struct SpacesServeTask {
     /// The number of seconds without a session after which a space is closed, at least 1.
     pub close_after: u32,
     pub places: ListenAddresses,
+    /// The HTTP port, if it has one; a free one for 0.
+    pub http: Option<u16>,
     /// The greatest number of sessions at a time, over all spaces.
     pub at_once: u32,
     /// The number of seconds of silence that end a session, if any.

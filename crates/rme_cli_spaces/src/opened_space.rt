@@ -6,12 +6,11 @@
 ghost use Rattle.std.specs.Prelude.{◌≡◌, []};
 ghost use Rattle.rme_durable_server.specs.ServerHistories.{server_state};
 
-use rme_cli_durable::{StateAndLog, state_and_log};
+use rme_cli_durable::{ServedLog, StateAndLog, state_and_log};
 use rme_cli_messages::CliFault;
-use rme_durable_file::{
-    RecoveredFile, StateFile, StateName, SystemFile, check_replaceable, open_state_file,
-};
+use rme_durable_file::{RecoveredFile, StateName, check_replaceable, open_state_file};
 use rme_durable_server::{DurableServer, ServerSetting, ServerTag};
+use rme_metrics::LogCounters;
 use rme_session_server::Closer;
 use rme_words::Refusal;
 use std::alloc::Global;
@@ -23,7 +22,7 @@ use std::thread::{Builder, Scope, Threads};
 pub(crate) const OPENING_STACK: usize = 2_097_152;
 
 /// The file of a space, as the store of its log.
-pub(crate) type SpaceLog<'a> = StateFile<'a, SystemFile<'a>>;
+pub(crate) type SpaceLog<'a> = ServedLog<'a>;
 
 /// The opened state of a space, with its log.
 #[derive(Drop)]
@@ -32,23 +31,21 @@ pub(crate) struct OpenedSpace<'a> {
     ghost lines: { state.executor.lines ≡ [] },
 }
 
-/// The file of a space that is to be opened.
+/// The file of a space that is to be opened, and what its writes are counted by, if they are.
 #[derive(Clone, Copy)]
-struct SpaceFile<'a> {
-    rt: &'a HostRuntime,
-    name: &'a StateName,
-    syncs: bool,
+pub(crate) struct SpaceFile<'a> {
+    pub(crate) rt: &'a HostRuntime,
+    pub(crate) name: &'a StateName,
+    pub(crate) syncs: bool,
+    pub(crate) writes: Option<&'a LogCounters>,
 }
 
 impl<'a> OpenedSpace<'a> {
     /// Opens the state of a space; `None` if it is not there.
     pub(crate) fn open<R: Threads + Wait + Sync>(
         threads: &R,
-        rt: &'a HostRuntime,
-        name: &'a StateName,
-        syncs: bool,
+        file: SpaceFile<'a>,
     ) -> Result<Option<Box<OpenedSpace<'a>, Global>>, CliFault> {
-        let file = SpaceFile { rt, name, syncs };
         thread::scope(
             thread::scope_env(),
             threads,
@@ -77,14 +74,19 @@ fn open_beside<'s, 'a: 's, E, R: Threads + Wait>(
 
 /// Opens the state of a space in this thread.
 fn open_here<'a>(file: SpaceFile<'a>) -> Result<Option<Box<OpenedSpace<'a>, Global>>, CliFault> {
-    let SpaceFile { rt, name, syncs } = file;
+    let SpaceFile {
+        rt,
+        name,
+        syncs,
+        writes,
+    } = file;
     let Some(file) = open_state_file(rt, name, syncs)? else {
         return Ok(None);
     };
     check_replaceable(rt, name.path())?;
     let opened = RecoveredFile::read(rt, file)?.open(rt)?;
     let space = OpenedSpace {
-        state: state_and_log(opened),
+        state: state_and_log(rt, writes, opened),
     };
     match Box::new(rt.alloc(), space) {
         Ok(space) => Ok(Some(space)),

@@ -1,9 +1,13 @@
 //! `rme serve --spaces`: a folder of spaces, each a durable server of its own.
 
+use crate::counted_answers::answer_counted;
 use crate::opened_space::OPENING_STACK;
-use crate::space_directory::{MovingSession, ServedSpaces, SpacesObserver};
+use crate::space_directory::{MovingSession, ServedSpaces, SpacesCounters, SpacesObserver};
+use crate::space_guest::SpaceGuest;
+use crate::space_pages::SpacesPages;
 use crate::space_server::{SPACE_STACK, SpacesContext, run_space};
 use crate::spaces_folder::SpacesFolder;
+use rme_cli_http::{HTTP_STACK, HttpPort};
 use rme_cli_keys::{KeysFile, open_keys};
 use rme_cli_listen::{StderrObserver, listen};
 use rme_cli_messages::CliFault;
@@ -39,13 +43,15 @@ pub fn run_serve_spaces<R: Threads + Wait + Clock + Sync>(
         folder,
         close_after,
         places,
+        http,
         sync,
         keys,
         log,
         ..
     } = task;
     let observer = StderrObserver::new(rt, log);
-    let spaces = match open_spaces(rt, folder, keys) {
+    let http = HttpPort::listen(rt, http)?;
+    let spaces = match open_spaces(rt, folder, keys, http.is_some()) {
         Ok(spaces) => spaces,
         Err(status) => return Ok(status),
     };
@@ -59,7 +65,13 @@ pub fn run_serve_spaces<R: Threads + Wait + Clock + Sync>(
         close_after,
     };
     bound.addresses.print(rt)?;
-    let served = serve_all_spaces(threads, listeners, &bound.acceptor, &context);
+    let served = match &http {
+        Some(http) => {
+            http.print(rt)?;
+            serve_with_pages(threads, listeners, &bound.acceptor, http, &context)
+        }
+        None => serve_all_spaces(threads, listeners, &bound.acceptor, &context),
+    };
     bound.addresses.clear(rt);
     match served {
         Ok(()) => Ok(0),
@@ -67,11 +79,13 @@ pub fn run_serve_spaces<R: Threads + Wait + Clock + Sync>(
     }
 }
 
-/// The folder and the keys of a server. If one is refused, the exit status, of which the standard error was told.
+/// The folder and the keys of a server, with counters if something is to be counted. If one is refused, the exit status,
+/// of which the standard error was told.
 fn open_spaces<'a, 'g>(
     rt: &'a HostRuntime,
     folder: String,
     keys: Option<String>,
+    is_counted: bool,
 ) -> Result<ServedSpaces<'a, 'g>, u8> {
     let keys = match open_keys(rt, keys) {
         Ok(keys) => keys,
@@ -82,6 +96,7 @@ fn open_spaces<'a, 'g>(
             folder,
             registry: SpaceRegistry::new(rt.alloc()),
             keys,
+            counters: is_counted.then(SpacesCounters::new),
         }),
         Err(refused) => Err(refused.status),
     }
@@ -113,6 +128,35 @@ fn setting_of(task: &SpacesServeTask) -> ServerSetting {
             WaitingPolicy::Withdraw => WaitingJobs::Withdraw,
         },
     }
+}
+
+/// Serves the connections, the spaces that their sessions use, and the pages on the HTTP port.
+fn serve_with_pages<'g, R: Threads + Wait + Clock + Sync>(
+    threads: &R,
+    listeners: (Listener, Option<Listener>),
+    acceptor: &Arc<Acceptor>,
+    http: &HttpPort,
+    context: &SpacesContext<'_, 'g>,
+) -> Result<(), ServeFault> {
+    let pages = SpacesPages { context };
+    let pages = &pages;
+    thread::scope(
+        thread::scope_env(),
+        threads,
+        move |scope| -> Result<(), ServeFault> {
+            let serving = move || http.serve(threads, pages);
+            let Ok(serving) = Builder::new()
+                .stack_size(HTTP_STACK)
+                .spawn_scoped(scope, serving)
+            else {
+                return Err(ServeFault::NoThread);
+            };
+            let served = serve_all_spaces(threads, listeners, acceptor, context);
+            http.stop();
+            serving.join(threads);
+            served
+        },
+    )
 }
 
 /// Serves the connections, and the spaces that their sessions use.
@@ -181,7 +225,7 @@ fn start_space<'s, 'g: 's, E, R: Threads + Wait + Clock + Sync>(
     threads: &'s R,
     scope: &Scope<'s, E>,
     context: &'s SpacesContext<'_, 'g>,
-    entry: Arc<SpaceEntry<MovingSession<'g>>>,
+    entry: Arc<SpaceEntry<SpaceGuest<'g>>>,
 ) {
     let registry = &context.spaces.registry;
     let Ok(own) = Arc::try_clone(&entry) else {
@@ -203,7 +247,7 @@ fn start_removal<'s, 'g: 's, E, R: Threads + Wait + Clock + Sync>(
     threads: &'s R,
     scope: &Scope<'s, E>,
     context: &'s SpacesContext<'_, 'g>,
-    entry: Arc<SpaceEntry<MovingSession<'g>>>,
+    entry: Arc<SpaceEntry<SpaceGuest<'g>>>,
 ) {
     let registry = &context.spaces.registry;
     let Ok(own) = Arc::try_clone(&entry) else {
@@ -257,6 +301,8 @@ impl<'g> ConnectionHandler<SpacesObserver<'g>> for SpacesFront<'_, 'g> {
         requires fits { ⊤ }
     {
         let mut connection = connection;
+        self.spaces.count_session();
+        let counters = self.spaces.session_counters();
         let nothing = NoSpace {
             alloc: self.alloc,
             names: self.names,
@@ -267,7 +313,8 @@ impl<'g> ConnectionHandler<SpacesObserver<'g>> for SpacesFront<'_, 'g> {
             names: self.names,
         };
         let Some(keys) = &self.spaces.keys else {
-            let (last, _) = connection.answer_lines(rt, &spaced, spaced.begin_session());
+            let first = spaced.begin_session();
+            let last = answer_counted(rt, counters, &mut connection, &spaced, first);
             let SpacedStand { stand: (), visit } = last;
             let session = MovingSession {
                 connection,
@@ -283,7 +330,8 @@ impl<'g> ConnectionHandler<SpacesObserver<'g>> for SpacesFront<'_, 'g> {
             workers: 0,
             has_spaces: true,
         };
-        let (last, _) = connection.answer_lines(rt, &keyed, keyed.begin_session());
+        let first = keyed.begin_session();
+        let last = answer_counted(rt, counters, &mut connection, &keyed, first);
         let KeyedStand { access, stand } = last;
         let SpacedStand { stand: (), visit } = stand;
         self.spaces

@@ -1,8 +1,10 @@
 //! The spaces of a server, for its sessions.
 
+use crate::space_guest::SpaceGuest;
 use crate::spaces_folder::SpacesFolder;
 use rme_cli_keys::KeysFile;
 use rme_cli_listen::StderrObserver;
+use rme_metrics::{LogCounters, ServerCounters};
 use rme_session_keys::Access;
 use rme_session_server::{AcceptedConnection, SharedObserver};
 use rme_session_spaces::{SpaceDirectory, SpacePage};
@@ -23,17 +25,59 @@ pub(crate) struct MovingSession<'g> {
 }
 
 /// A visit to a space.
-pub(crate) type DirectoryVisit<'g> = SpaceVisit<MovingSession<'g>>;
+pub(crate) type DirectoryVisit<'g> = SpaceVisit<SpaceGuest<'g>>;
 
-/// The spaces of a server: their folder, those that are open, and the keys, if the server has some.
+/// The spaces of a server: their folder, those that are open, the keys, if the server has some, and the counters, if
+/// somebody can see what they tell.
 #[derive(Drop)]
 pub(crate) struct ServedSpaces<'a, 'g> {
     pub(crate) folder: SpacesFolder<'a>,
-    pub(crate) registry: SpaceRegistry<MovingSession<'g>>,
+    pub(crate) registry: SpaceRegistry<SpaceGuest<'g>>,
     pub(crate) keys: Option<KeysFile<'a>>,
+    pub(crate) counters: Option<SpacesCounters>,
+}
+
+/// The counters of a server of spaces: of all its sessions, and of the writes to all its logs.
+#[derive(Drop)]
+pub(crate) struct SpacesCounters {
+    pub(crate) sessions: ServerCounters,
+    pub(crate) writes: LogCounters,
+}
+
+impl SpacesCounters {
+    /// Counters of 0.
+    pub(crate) fn new() -> SpacesCounters {
+        SpacesCounters {
+            sessions: ServerCounters::new(),
+            writes: LogCounters::new(),
+        }
+    }
 }
 
 impl<'g> ServedSpaces<'_, 'g> {
+    /// The counters of the sessions, if they are counted.
+    pub(crate) fn session_counters(&self) -> Option<&ServerCounters> {
+        match &self.counters {
+            Some(counters) => Some(&counters.sessions),
+            None => None,
+        }
+    }
+
+    /// Counts a session that begins.
+    pub(crate) fn count_session(&self) {
+        if let Some(counters) = &self.counters {
+            counters.sessions.session_began();
+        }
+    }
+
+    /// Ends a session that was counted.
+    pub(crate) fn finish<R: Wait>(&self, rt: &R, session: MovingSession<'g>) {
+        if let Some(counters) = &self.counters {
+            counters.sessions.session_ended();
+        }
+        session.connection.finish(rt);
+    }
+
     /// Has a session go on in the space of its visit, or ends it if it has none.
     pub(crate) fn move_session<R: Wait>(
         &self,
@@ -41,12 +85,13 @@ impl<'g> ServedSpaces<'_, 'g> {
         session: MovingSession<'g>,
         visit: Option<DirectoryVisit<'g>>,
     ) {
+        let guest = SpaceGuest::Session(session);
         let refused = match visit {
-            Some(visit) => self.registry.hand_over(rt, visit, session),
-            None => Err(session),
+            Some(visit) => self.registry.hand_over(rt, visit, guest),
+            None => Err(guest),
         };
-        if let Err(session) = refused {
-            session.connection.finish(rt);
+        if let Err(SpaceGuest::Session(session)) = refused {
+            self.finish(rt, session);
         }
     }
 }

@@ -3,9 +3,12 @@
 ghost use Rattle.std.specs.Prelude.{◌≡◌};
 ghost use Rattle.rme_durable_server.specs.ServerHistories.{server_state};
 
-use crate::opened_space::{OpenedSpace, SpaceLog, server_of};
+use crate::counted_answers::answer_counted;
+use crate::opened_space::{OpenedSpace, SpaceFile, SpaceLog, server_of};
 use crate::space_directory::{DirectoryVisit, MovingSession, ServedSpaces};
+use crate::space_guest::{SpaceGuest, StatusQuestion};
 use crate::space_sessions::SpaceSessions;
+use rme_cli_http::look_up_status;
 use rme_cli_listen::StderrObserver;
 use rme_durable_file::StateName;
 use rme_durable_log::NotDurable;
@@ -55,7 +58,7 @@ enum SpaceEnd {
 pub(crate) fn run_space<'g, R: Threads + Wait + Clock + Sync>(
     threads: &R,
     context: &SpacesContext<'_, 'g>,
-    entry: &Arc<SpaceEntry<MovingSession<'g>>>,
+    entry: &Arc<SpaceEntry<SpaceGuest<'g>>>,
 ) {
     let registry = &context.spaces.registry;
     let Ok(path) = context.spaces.folder.path_of(entry.name()) else {
@@ -64,7 +67,17 @@ pub(crate) fn run_space<'g, R: Threads + Wait + Clock + Sync>(
     };
     let name = StateName::new(path);
     let rt: &HostRuntime = context.rt;
-    match OpenedSpace::open(threads, rt, &name, context.syncs) {
+    let writes = match &context.spaces.counters {
+        Some(counters) => Some(&counters.writes),
+        None => None,
+    };
+    let file = SpaceFile {
+        rt,
+        name: &name,
+        syncs: context.syncs,
+        writes,
+    };
+    match OpenedSpace::open(threads, file) {
         Ok(Some(opened)) => {
             let served = SpaceContext {
                 context,
@@ -88,7 +101,7 @@ pub(crate) fn run_space<'g, R: Threads + Wait + Clock + Sync>(
 #[derive(Drop)]
 struct SpaceContext<'v, 'a, 'g> {
     context: &'v SpacesContext<'a, 'g>,
-    entry: &'v Arc<SpaceEntry<MovingSession<'g>>>,
+    entry: &'v Arc<SpaceEntry<SpaceGuest<'g>>>,
     name: &'v StateName,
 }
 
@@ -173,9 +186,9 @@ fn take_sessions<'s, E, J: ServerTag + Send + Sync, R: Threads + Wait + Clock + 
         let arrival = SpaceEntry::next_arrival(entry, threads, Duration::from_secs(LOOK_PERIOD));
         let mut is_asked = false;
         match arrival {
-            Ok(Arrival::Guest(session, visit)) => {
+            Ok(Arrival::Guest(guest, visit)) => {
                 unvisited = 0;
-                start_session(threads, scope, server, session, visit);
+                receive_guest(threads, scope, server, guest, visit);
             }
             Ok(Arrival::Close) => is_asked = true,
             Ok(Arrival::Nothing) if entry.has_visits() => unvisited = 0,
@@ -211,6 +224,51 @@ impl<J: ServerTag> SpaceServer<'_, '_, '_, '_, J> {
     }
 }
 
+/// Starts a session, or has a question answered.
+fn receive_guest<'s, 'g: 's, E, J: ServerTag + Send + Sync, R: Threads + Wait + Clock + Sync>(
+    threads: &'s R,
+    scope: &Scope<'s, E>,
+    server: &'s SpaceServer<'_, '_, 'g, '_, J>,
+    guest: SpaceGuest<'g>,
+    visit: DirectoryVisit<'g>,
+) {
+    match guest {
+        SpaceGuest::Session(session) => start_session(threads, scope, server, session, visit),
+        SpaceGuest::Question(question) => start_answer(threads, scope, server, question, visit),
+    }
+}
+
+/// Has a question answered in a thread of the scope: a look-up touches more of a stack than the thread of a space should
+/// keep. Without a thread it stays unanswered.
+fn start_answer<'s, 'g: 's, E, J: ServerTag + Send + Sync, R: Threads + Wait + Clock + Sync>(
+    threads: &'s R,
+    scope: &Scope<'s, E>,
+    server: &'s SpaceServer<'_, '_, 'g, '_, J>,
+    question: Arc<StatusQuestion>,
+    visit: DirectoryVisit<'g>,
+) {
+    let answering = move || answer_question(threads, server, &question, visit);
+    if Builder::new()
+        .stack_size(SPACE_STACK)
+        .spawn_scoped(scope, answering)
+        .is_err()
+    {
+        server.space.context.observer.no_thread();
+    }
+}
+
+/// Answers a question for the status of a space, which is visited meanwhile.
+fn answer_question<'g, J: ServerTag, R: Wait + Clock>(
+    threads: &R,
+    server: &SpaceServer<'_, '_, 'g, '_, J>,
+    question: &StatusQuestion,
+    visit: DirectoryVisit<'g>,
+) {
+    let status = look_up_status(threads, server.kept).ok();
+    question.answer(threads, status.flatten());
+    drop(visit);
+}
+
 /// Starts a session in a thread of the scope, or ends it if it can't have one.
 fn start_session<'s, 'g: 's, E, J: ServerTag + Send + Sync, R: Threads + Wait + Clock + Sync>(
     threads: &'s R,
@@ -220,7 +278,7 @@ fn start_session<'s, 'g: 's, E, J: ServerTag + Send + Sync, R: Threads + Wait + 
     visit: DirectoryVisit<'g>,
 ) {
     if let Err((session, _visit)) = server.sessions.put_waiting(threads, session, visit) {
-        session.connection.finish(threads);
+        server.space.context.spaces.finish(threads, session);
         return;
     }
     let running = move || run_waiting(threads, server);
@@ -232,7 +290,7 @@ fn start_session<'s, 'g: 's, E, J: ServerTag + Send + Sync, R: Threads + Wait + 
         server.space.context.observer.no_thread();
         // As many sessions wait as threads take them, so the one without a thread may be any of them.
         if let Some((session, _visit)) = server.sessions.take_waiting(threads) {
-            session.connection.finish(threads);
+            server.space.context.spaces.finish(threads, session);
         }
     }
 }
@@ -255,11 +313,23 @@ fn finish_arrivals<J: ServerTag, R: Wait + Clock>(
     let entry = server.space.entry;
     for _ in threads.forever() {
         match SpaceEntry::next_arrival(entry, threads, Duration::ZERO) {
-            Ok(Arrival::Guest(session, _visit)) => session.connection.finish(threads),
+            Ok(Arrival::Guest(guest, _visit)) => refuse_guest(threads, server, guest),
             Ok(Arrival::Close) => {}
             Ok(Arrival::Nothing) => return,
             Err(_) => return,
         }
+    }
+}
+
+/// Ends a session, or answers that the space has no status.
+fn refuse_guest<'g, J: ServerTag, R: Wait + Clock>(
+    threads: &R,
+    server: &SpaceServer<'_, '_, 'g, '_, J>,
+    guest: SpaceGuest<'g>,
+) {
+    match guest {
+        SpaceGuest::Session(session) => server.space.context.spaces.finish(threads, session),
+        SpaceGuest::Question(question) => question.answer(threads, None),
     }
 }
 
@@ -308,7 +378,8 @@ fn answer_session<'g, J: ServerTag, R: Wait + Clock>(
     };
     let first = spaced.begin_session();
     let Some(keys) = &spaces.keys else {
-        let (last, _) = connection.answer_lines(threads, &spaced, first);
+        let counters = spaces.session_counters();
+        let last = answer_counted(threads, counters, &mut connection, &spaced, first);
         let SpacedStand { stand, visit } = last;
         connection.end_session(threads, server.kept, stand);
         return (MovingSession { connection, access }, visit);
@@ -324,7 +395,8 @@ fn answer_session<'g, J: ServerTag, R: Wait + Clock>(
         access,
         stand: first,
     };
-    let (last, _) = connection.answer_lines(threads, &keyed, first);
+    let counters = spaces.session_counters();
+    let last = answer_counted(threads, counters, &mut connection, &keyed, first);
     let KeyedStand { access, stand } = last;
     let SpacedStand { stand, visit } = stand;
     connection.end_session(threads, server.kept, stand);

@@ -13,3 +13,15 @@ pub appends_five : (out first second third fourth fifth a b c d e : List ℕ) �
     → third ≡ second ++ c → fourth ≡ third ++ d → fifth ≡ fourth ++ e → fifth ≡ out ++ (a ++ (b ++ (c ++ (d ++ e))))
 appends_five out first second third fourth fifth a b c d e f g h i j =
     appends_three out first second fifth a b (c ++ (d ++ e)) f g (appends_three second third fourth fifth c d e h i j)
+
+pub appends_four : (out first second third fourth a b c d : List ℕ) → first ≡ out ++ a → second ≡ first ++ b
+    → third ≡ second ++ c → fourth ≡ third ++ d → fourth ≡ out ++ (a ++ (b ++ (c ++ d)))
+appends_four out first second third fourth a b c d e f g h =
+    appends_two out first fourth a (b ++ (c ++ d)) e (appends_three first second third fourth b c d f g h)
+
+pub appends_six : (out first second third fourth fifth sixth a b c d e f : List ℕ) → first ≡ out ++ a
+    → second ≡ first ++ b → third ≡ second ++ c → fourth ≡ third ++ d → fifth ≡ fourth ++ e → sixth ≡ fifth ++ f
+    → sixth ≡ out ++ (a ++ (b ++ (c ++ (d ++ (e ++ f)))))
+appends_six out first second third fourth fifth sixth a b c d e f g h i j k l =
+    appends_three out first second sixth a b (c ++ (d ++ (e ++ f))) g h
+    (appends_four second third fourth fifth sixth c d e f i j k l)

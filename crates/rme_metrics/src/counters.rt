@@ -2,9 +2,9 @@
 
 use crate::label::LabelledCount;
 use crate::order_kind::{ORDER_KINDS, OrderKind};
-use crate::snapshot::MetricsSnapshot;
+use crate::snapshot::SessionMetrics;
 use crate::time_counter::TimeCounter;
-use rme_words::{NoMemory, Refusal};
+use rme_words::Refusal;
 use std::alloc::{AllocError, Global};
 use std::array;
 use std::sync::atomic::{AtomicU64, Ordering};
@@ -100,21 +100,18 @@ impl ServerCounters {
         }
     }
 
-    /// What they tell now, of a server without a state, and without jobs.
-    pub fn snapshot<'a>(&self, alloc: Global) -> Result<MetricsSnapshot<'a>, NoMemory> {
+    /// What they tell now.
+    pub fn told<'a>(&self, alloc: Global) -> Result<SessionMetrics<'a>, AllocError> {
         let begun = self.begun.load(Ordering::SeqCst);
         let lines = self.lines.load(Ordering::SeqCst);
         let order_times = self.times.histogram(alloc)?;
-        Ok(MetricsSnapshot {
-            sessions_open: begun.saturating_sub(self.ended.load(Ordering::SeqCst)),
-            sessions_begun: begun,
-            sessions_waiting: lines.saturating_sub(order_times.count),
+        Ok(SessionMetrics {
+            open: begun.saturating_sub(self.ended.load(Ordering::SeqCst)),
+            begun,
+            waiting: lines.saturating_sub(order_times.count),
             orders: self.order_counts(alloc)?,
             refusals: self.refusal_counts(alloc)?,
-            jobs_finished: Vec::new(alloc),
-            jobs_withdrawn: Vec::new(alloc),
             order_times,
-            state: None,
         })
     }
 

@@ -11,11 +11,12 @@ use std::time::{Clock, Instant};
 /// The microseconds of a second.
 const SECOND: u64 = 1_000_000;
 
-/// A backend that answers as another one, and counts what its answers say, and how long each took.
+/// A backend that answers as another one, and counts what its answers say, and how long each took; without counters it
+/// only answers.
 #[derive(Drop)]
 pub struct MeteredBackend<'a, B> {
     pub backend: &'a B,
-    pub counters: &'a ServerCounters,
+    pub counters: Option<&'a ServerCounters>,
 }
 
 /// Each session, each line, each answer and each end is as that of the backend below.
@@ -51,7 +52,9 @@ impl<B: Backend> Backend for MeteredBackend<'_, B> {
     }
 
     fn begin_session(&self) -> B::Stand {
-        self.counters.session_began();
+        if let Some(counters) = self.counters {
+            counters.session_began();
+        }
         self.backend.begin_session()
     }
 
@@ -71,13 +74,16 @@ impl<B: Backend> Backend for MeteredBackend<'_, B> {
         writer: &mut O,
         client: &C,
     ) -> (B::Stand, Result<(), AnswerError>) {
-        self.counters.line_taken();
+        let Some(counters) = self.counters else {
+            return self.backend.answer(rt, stand, buffers, writer, client);
+        };
+        counters.line_taken();
         let began = Instant::now(rt).ok();
         let (stand, answered) = self.backend.answer(rt, stand, buffers, writer, client);
         if answered.is_ok() {
-            self.count(buffers.text.as_bytes());
+            count(counters, buffers.text.as_bytes());
         }
-        self.counters.line_done(micros_since(rt, began));
+        counters.line_done(micros_since(rt, began));
         (stand, answered)
     }
 
@@ -87,19 +93,19 @@ impl<B: Backend> Backend for MeteredBackend<'_, B> {
         stand: B::Stand,
         client: &C,
     ) -> Result<(), AttemptError> {
-        self.counters.session_ended();
+        if let Some(counters) = self.counters {
+            counters.session_ended();
+        }
         self.backend.end_session(rt, stand, client)
     }
 }
 
-impl<B: Backend> MeteredBackend<'_, B> {
-    /// Counts an answer.
-    fn count(&self, text: &[u8]) {
-        match counted_answer(text) {
-            CountedAnswer::Answered(kind) => self.counters.order_answered(kind),
-            CountedAnswer::Refused(code) => self.counters.line_refused(code),
-            CountedAnswer::Uncounted => {}
-        }
+/// Counts an answer.
+fn count(counters: &ServerCounters, text: &[u8]) {
+    match counted_answer(text) {
+        CountedAnswer::Answered(kind) => counters.order_answered(kind),
+        CountedAnswer::Refused(code) => counters.line_refused(code),
+        CountedAnswer::Uncounted => {}
     }
 }
 

@@ -10,9 +10,10 @@ bash, with rme-hold in the path:
   ```console server   its one command is started, and must end once the next block was run
   ```sh skip: WHY     not run here; also with console
 
-Each command must end with status 0. The port 7000 stands for one that is free. A command in an indented block is an error:
+Each command must end with status 0. The ports 7000 and 9464 stand for free ones. A command in an indented block is an error:
 it would not be run. PROGRAM is run in the place of ./rme."""
 
+import contextlib
 import glob
 import os
 import re
@@ -29,13 +30,16 @@ from lib.programs import TOP, built
 
 PROGRAM = os.path.realpath(sys.argv[1]) if len(sys.argv) > 1 else built()
 SECONDS = 60
+PORTS = ("7000", "9464")  # as documents have them
 
 INDENTED = re.compile(r" {4}(\$ |\./rme |rme |rt |bash |python3? |scripts/|bench/)")
 
 
-def free_port():
-    with socket.create_server(("127.0.0.1", 0)) as taken:
-        return str(taken.getsockname()[1])
+def free_ports():
+    """A free port for each of PORTS."""
+    with contextlib.ExitStack() as stack:
+        taken = [stack.enter_context(socket.create_server(("127.0.0.1", 0))) for _ in PORTS]
+        return {port: str(it.getsockname()[1]) for port, it in zip(PORTS, taken)}
 
 
 class Block:
@@ -95,7 +99,7 @@ class Folder:
     """The folder of one document, and its server, if one runs."""
 
     def __init__(self, path):
-        self.path, self.port, self.server = path, free_port(), None
+        self.path, self.ports, self.server = path, free_ports(), None
         os.symlink(PROGRAM, os.path.join(path, "rme"))
         for name in ("examples", "clients"):
             shutil.copytree(os.path.join(TOP, name), os.path.join(path, name))
@@ -108,8 +112,16 @@ class Folder:
         os.chmod(hold, 0o755)
         self.environment = {**os.environ, "PATH": os.pathsep.join((os.path.join(path, "bin"), os.environ["PATH"]))}
 
+    def as_shown(self, text):
+        """A text that was printed, with the ports of the documents."""
+        for port, free in self.ports.items():
+            text = text.replace(free, port)
+        return text
+
     def start(self, command):
-        words = ["bash", "-e", "-o", "pipefail", "-c", command.replace("7000", self.port)]
+        for port, free in self.ports.items():
+            command = command.replace(port, free)
+        words = ["bash", "-e", "-o", "pipefail", "-c", command]
         return subprocess.Popen(words, cwd=self.path, env=self.environment, stdin=subprocess.DEVNULL, stdout=subprocess.PIPE,
                                 stderr=subprocess.PIPE, text=True, start_new_session=True)
 
@@ -126,7 +138,7 @@ class Folder:
             told, said = started.communicate()
             said += "it did not end"
         name = f"{place} {command.splitlines()[0]}"
-        printed = told.replace(self.port, "7000").splitlines()
+        printed = self.as_shown(told).splitlines()
         holds = started.returncode == 0 and (wanted is None or printed == wanted)
         check(name, holds, f"status {started.returncode}, it printed {printed}, and said {said!r}")
 
@@ -136,7 +148,7 @@ class Folder:
         # A server that says nothing must not stop the script.
         alarm = threading.Timer(SECONDS, os.killpg, (started.pid, signal.SIGKILL))
         alarm.start()
-        first = started.stdout.readline().rstrip("\n").replace(self.port, "7000")
+        first = self.as_shown(started.stdout.readline().rstrip("\n"))
         alarm.cancel()
         check(f"{place} {command}, its first line", wanted[:1] == [first], first)
         self.server = (place, command, started, wanted[1:])

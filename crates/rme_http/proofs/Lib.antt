@@ -1,0 +1,4 @@
+pub mod Contents
+pub mod Hosts
+pub mod Reading
+pub mod Targets
