@@ -1,5 +1,5 @@
 -- Families of samples, as a text has them: a line with the help, a line with the type, and a line for each sample.
-use Rattle.std.specs.Prelude.{ℕ, ◌/◌, ◌%◌, List, [], ◌∷◌, ◌++◌, codes, decimal, flat_map}
+use Rattle.std.specs.Prelude.{ℕ, ◌/◌, ◌%◌, List, ◌++◌, codes, decimal, flat_map}
 use Rattle.rme_metrics.specs.Labels.{escaped_label}
 use Rattle.rme_metrics.specs.Families.{family_help, family_kind, family_name, metric_kind_word}
 use Rattle.rme_metrics.specs.declared.family.MetricFamily.{MetricFamily}

@@ -62,10 +62,49 @@ impl TimeCounter {
     pub fn histogram(&self, alloc: Global) -> Result<TimeHistogram, AllocError>
         ensures { IfOk result IsHistogram }
     {
+        let mut sums = TimeSums::new();
+        sums.add(self);
+        sums.histogram(alloc)
+    }
+}
+
+/// The sums of some counters of times.
+#[derive(Drop)]
+pub(crate) struct TimeSums {
+    counts: [u64; TIME_BUCKETS],
+    micros: u64,
+}
+
+impl TimeSums {
+    ghost use Rattle.std.specs.Prelude.{IfOk};
+    ghost use Rattle.rme_metrics.specs.Histograms.{IsHistogram};
+
+    /// The sums of no counters.
+    pub(crate) fn new() -> TimeSums {
+        TimeSums {
+            counts: [0; TIME_BUCKETS],
+            micros: 0,
+        }
+    }
+
+    /// Adds what a counter has up to now.
+    pub(crate) fn add(&mut self, counter: &TimeCounter) {
+        for place in 0..TIME_BUCKETS {
+            let count = counter.counts[place].load(Ordering::SeqCst);
+            self.counts[place] = self.counts[place].saturating_add(count);
+        }
+        let micros = counter.micros.load(Ordering::SeqCst);
+        self.micros = self.micros.saturating_add(micros);
+    }
+
+    /// The histogram of all times.
+    pub(crate) fn histogram(&self, alloc: Global) -> Result<TimeHistogram, AllocError>
+        ensures { IfOk result IsHistogram }
+    {
         let mut buckets = Vec::with_capacity(alloc, TIME_BUCKETS)?;
         let mut count = 0u64;
         for place in 0..TIME_BUCKETS {
-            count = count.saturating_add(self.counts[place].load(Ordering::SeqCst));
+            count = count.saturating_add(self.counts[place]);
             buckets.push(LabelledCount {
                 label: BOUND_LABELS[place],
                 count,
@@ -74,7 +113,7 @@ impl TimeCounter {
         Ok(TimeHistogram {
             buckets,
             count,
-            micros: self.micros.load(Ordering::SeqCst),
+            micros: self.micros,
         })
     }
 }

@@ -1,7 +1,7 @@
 //! A backend that counts what the backend below it answers.
 
 use crate::answer_text::{CountedAnswer, counted_answer};
-use rme_metrics::ServerCounters;
+use rme_metrics::{CounterLane, ServerCounters};
 use rme_session_loop::{AnswerError, AttemptError, Backend, Buffers, Client};
 use rme_wire::{Names, Sink};
 use std::alloc::Global;
@@ -77,13 +77,14 @@ impl<B: Backend> Backend for MeteredBackend<'_, B> {
         let Some(counters) = self.counters else {
             return self.backend.answer(rt, stand, buffers, writer, client);
         };
-        counters.line_taken();
+        let lane = counters.lane(self.backend.attached_worker(&stand));
+        lane.line_taken();
         let began = Instant::now(rt).ok();
         let (stand, answered) = self.backend.answer(rt, stand, buffers, writer, client);
         if answered.is_ok() {
-            count(counters, buffers.text.as_bytes());
+            count(lane, buffers.text.as_bytes());
         }
-        counters.line_done(micros_since(rt, began));
+        lane.line_done(micros_since(rt, began));
         (stand, answered)
     }
 
@@ -101,10 +102,10 @@ impl<B: Backend> Backend for MeteredBackend<'_, B> {
 }
 
 /// Counts an answer.
-fn count(counters: &ServerCounters, text: &[u8]) {
+fn count(lane: &CounterLane, text: &[u8]) {
     match counted_answer(text) {
-        CountedAnswer::Answered(kind) => counters.order_answered(kind),
-        CountedAnswer::Refused(code) => counters.line_refused(code),
+        CountedAnswer::Answered(kind) => lane.order_answered(kind),
+        CountedAnswer::Refused(code) => lane.line_refused(code),
         CountedAnswer::Uncounted => {}
     }
 }

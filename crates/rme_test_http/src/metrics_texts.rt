@@ -148,12 +148,12 @@ fn counters_tell_what_was_added(rt: HostRuntime) -> Result<(), Fail> {
     counters.session_began();
     counters.session_began();
     counters.session_ended();
-    counters.line_taken();
-    counters.line_taken();
-    counters.line_done(5);
-    counters.order_answered(OrderKind::Submit);
-    counters.line_refused(26);
-    counters.line_refused(27);
+    counters.lane(None).line_taken();
+    counters.lane(Some(17)).line_taken();
+    counters.lane(Some(17)).line_done(5);
+    counters.lane(Some(1)).order_answered(OrderKind::Submit);
+    counters.lane(Some(u32::MAX)).line_refused(26);
+    counters.lane(None).line_refused(27);
     let told = counters.told(rt.alloc())?;
     assert_eq!(rt; told.open, 1);
     assert_eq!(rt; told.begun, 2);

@@ -1,7 +1,7 @@
 use Rattle.std.proofs.Common.{◌≤◌, ◌<◌, ◌^◌, ◌+◌, List, arith, subst, sym}
 use Rattle.rme_metrics.specs.declared.label.LabelledCount.{LabelledCount}
 use Rattle.rme_metrics.proofs.Rising.{RisesTo, rises_more}
-use Rattle.rme_metrics.proofs.time_counter.TimeCounter.histogram.Goals as goal
+use Rattle.rme_metrics.proofs.time_counter.TimeSums.histogram.Goals as goal
 
 pub loop-place-preserved : goal.loop-place-preserved
 loop-place-preserved c =
