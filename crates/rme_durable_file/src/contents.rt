@@ -84,7 +84,7 @@ impl FileContents {
 
 /// The number of lines of the bytes up to the last line of the write that begins behind this number of bytes; of all
 /// bytes if that write has no last line.
-fn write_end(bytes: &[u8], length: usize) -> u64 {
+pub fn write_end(bytes: &[u8], length: usize) -> u64 {
     let (mut count, mut place): (u64, usize) = (0, 0);
     for line in bytes.split_inclusive(|byte| *byte == b'\n') {
         count = count.saturating_add(1);

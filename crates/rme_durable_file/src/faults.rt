@@ -1,7 +1,7 @@
 //! The faults of a state's file.
 
 use crate::contents::contents_fault;
-use crate::disk_file::FileReadError;
+use crate::state_storage::FileReadError;
 use rme_cli_messages::{BadArgument, CliFault, escape_controls};
 use std::io;
 

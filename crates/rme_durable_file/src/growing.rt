@@ -4,10 +4,10 @@ ghost use Rattle.std.specs.Prelude.{◌≡◌, ℕ, [], List, IfOk, IsTrue, OnOk
 ghost use Rattle.rme_durable_file.specs.DiskFiles.{AppendsToFile};
 ghost use Rattle.rme_durable_file.specs.Growths.{KeepsNames, LeavesLocks, ReplacesByLargerEpoch};
 
-use crate::disk_file::DiskFile;
 use crate::faults::{not_grown_fault, write_fault};
 use crate::start::OpenedState;
 use crate::state_file::StateFile;
+use crate::state_storage::StateStorage;
 use rme_cli_messages::CliFault;
 use rme_durable_checkpoint::Checkpoint;
 use rme_durable_epochs::EpochExecutor;
@@ -18,7 +18,7 @@ use rme_words::Shape;
 /// The number of the session by which workers leave their locks before a state grows: no other session has begun.
 const OWN_SESSION: u64 = 0;
 
-impl<'a, F: DiskFile> OpenedState<'a, F> {
+impl<'a, F: StateStorage> OpenedState<'a, F> {
     ghost use Rattle.std.specs.Prelude.{◌≡◌, [], IfOk, true};
     ghost use Rattle.rme_durable_file.specs.Growths.{GrowsState, file_epoch};
 
@@ -37,6 +37,7 @@ impl<'a, F: DiskFile> OpenedState<'a, F> {
         requires works { self.file.works ≡ true }
         ensures works { IfOk result (λ state. state.file.works ≡ true) }
         ensures syncs { IfOk result (λ state. state.file.syncs ≡ self.entry.file.syncs) }
+        ensures barriers { IfOk result (λ state. state.file.barriers ≡ 0) }
         ensures lines { IfOk result (λ state. state.executor.lines ≡ []) }
         ensures names { IfOk result (λ state. state.names ≡ names) }
         ensures grows { IfOk result (λ state. GrowsState shape
@@ -63,7 +64,7 @@ impl<'a, F: DiskFile> OpenedState<'a, F> {
 }
 
 /// Lets each worker leave its lock that crashed after its section, and appends the lines of that.
-fn log_exits<F: DiskFile>(
+fn log_exits<F: StateStorage>(
     rt: &HostRuntime,
     names: &Names,
     executor: &mut EpochExecutor,
@@ -72,6 +73,7 @@ fn log_exits<F: DiskFile>(
     ensures exits { OnOk result (LeavesLocks names.now executor.old executor.new) }
     ensures appends { OnOk result ((lines : List ℕ) × AppendsToFile file.old.bytes lines file.new.bytes) }
     ensures works { file.new.works ≡ file.old.works }
+    ensures barriers { OnOk result (file.new.barriers ≡ 0) }
     ensures syncs { file.new.syncs ≡ file.old.syncs }
 {
     if executor.finish_exits(names, OWN_SESSION).is_err() {
@@ -87,7 +89,7 @@ fn log_exits<F: DiskFile>(
 }
 
 /// Replaces a file by a new epoch of a larger shape, and answers the executor of that.
-fn replace_by_larger<F: DiskFile>(
+fn replace_by_larger<F: StateStorage>(
     rt: &HostRuntime,
     executor: &EpochExecutor,
     names: &Names,
@@ -99,6 +101,7 @@ fn replace_by_larger<F: DiskFile>(
         file.new.bytes) }
     ensures lines { IfOk result (λ larger. larger.lines ≡ []) }
     ensures works { OnOk result (file.new.works ≡ true) }
+    ensures barriers { file.new.barriers ≡ file.old.barriers }
     ensures syncs { file.new.syncs ≡ file.old.syncs }
 {
     let Ok(grown) = Checkpoint::grown(executor, rt.alloc(), names, shape) else {

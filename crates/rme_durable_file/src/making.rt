@@ -18,7 +18,7 @@ pub(crate) const PRIVATE: u32 = 0o600;
 
 /// Makes a file with these bytes, and waits until the disk has it and its name. `AlreadyExists` if something has the
 /// name.
-pub(crate) fn create_whole(rt: &HostRuntime, path: &str, bytes: &[u8]) -> io::Result<()> {
+pub fn create_whole(rt: &HostRuntime, path: &str, bytes: &[u8]) -> io::Result<()> {
     let (beside, mut file) = create_temporary(rt, path)?;
     let put = match write_synced(&mut file, bytes) {
         // Unlike a rename, a link replaces no other file.

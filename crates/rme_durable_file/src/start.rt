@@ -4,10 +4,10 @@ ghost use Rattle.std.specs.Prelude.{◌≡◌, [], IfOk, OnOk, string_bytes};
 ghost use Rattle.rme_durable_format.specs.BatchCommands.{crash_commands_from};
 ghost use Rattle.rme_durable_format.specs.CommandLines.{AppendsCommands};
 
-use crate::disk_file::DiskFile;
 use crate::faults::{unread_fault, write_fault};
 use crate::reading::{ReadState, bad_log_fault, recover_reporting};
 use crate::state_file::StateFile;
+use crate::state_storage::StateStorage;
 use rme_cli_messages::CliFault;
 use rme_durable_epochs::{EpochExecutor, EpochStart};
 use rme_durable_format::{RecoveredLog, append_crashes};
@@ -19,14 +19,14 @@ use std::marker::Model;
 
 /// A file that was recovered, and can be served; nothing was changed yet. In contracts it is the store of its file.
 #[derive(Drop)]
-pub struct RecoveredFile<'a, F: DiskFile> {
+pub struct RecoveredFile<'a, F: StateStorage> {
     file: StateFile<'a, F>,
     recovered: RecoveredState,
     /// The number of bytes of its whole lines. What follows is a torn line.
     whole: usize,
 }
 
-impl<'a, F: DiskFile> Model for RecoveredFile<'a, F> {
+impl<'a, F: StateStorage> Model for RecoveredFile<'a, F> {
     ghost use Rattle.std.specs.Prelude.{◌≡◌, true};
     ghost use Rattle.rme_durable_file.specs.FileStores.{FileStore};
     ghost use Rattle.rme_durable_file.specs.Starts.{ReadsKnownState};
@@ -41,13 +41,13 @@ impl<'a, F: DiskFile> Model for RecoveredFile<'a, F> {
 
 /// A state whose events are all in its file, and whose workers are all down.
 #[derive(Drop)]
-pub struct OpenedState<'a, F: DiskFile> {
+pub struct OpenedState<'a, F: StateStorage> {
     pub names: Names,
     pub executor: EpochExecutor,
     pub file: StateFile<'a, F>,
 }
 
-impl<'a, F: DiskFile> RecoveredFile<'a, F> {
+impl<'a, F: StateStorage> RecoveredFile<'a, F> {
     ghost use Rattle.std.specs.Prelude.{◌≡◌, [], IfOk, true};
     ghost use Rattle.rme_durable_file.specs.Starts.{BeginsKnownServer, ReadsKnownLog};
 
@@ -88,6 +88,7 @@ impl<'a, F: DiskFile> RecoveredFile<'a, F> {
     pub fn open(self, rt: &HostRuntime) -> Result<OpenedState<'a, F>, CliFault>
         ensures works { IfOk result (λ state. state.file.works ≡ true) }
         ensures syncs { IfOk result (λ state. state.file.syncs ≡ self.entry.syncs) }
+        ensures barriers { IfOk result (λ state. state.file.barriers ≡ 0) }
         ensures lines { IfOk result (λ state. state.executor.lines ≡ []) }
         ensures begins { IfOk result (λ state. BeginsKnownServer self.entry.bytes state.names state.executor
             state.file.bytes) }

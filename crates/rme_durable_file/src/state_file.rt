@@ -1,21 +1,22 @@
 //! The store of a server: a file to which it appends.
 
 use crate::cause::Cause;
-use crate::disk_file::{DiskFile, FileReadError};
 use crate::name::StateName;
+use crate::state_storage::{FileReadError, StateStorage};
 use rme_durable_format::BadLog;
 use rme_durable_log::{LogStore, NotDurable};
 use std::alloc::Global;
 use std::io;
 use std::marker::Model;
 
-/// The file of a state, as the store of its log. In contracts it is the file's bytes, if they are known, whether it
-/// takes lines, and whether each append waits for the disk.
+/// The file of a state, or another storage of it, as the store of its log. In contracts it is the lines, if they are
+/// known, whether it takes lines, whether each append waits for the disk, and how many appends asked a shared storage
+/// since the start of its server.
 ///
 /// If an append fails, its `StateName` notes the cause, and nothing more is written: what is not durable must not be
 /// answered, and the next recovery continues from what was written.
 #[derive(Drop)]
-pub struct StateFile<'a, F: DiskFile> {
+pub struct StateFile<'a, F: StateStorage> {
     name: &'a StateName,
     file: F,
     /// Whether each append waits for the disk.
@@ -25,9 +26,12 @@ pub struct StateFile<'a, F: DiskFile> {
     is_unsure: bool,
     /// Whether no append has failed.
     works: bool,
+    /// How many appends had asked the storage at the last write of the start.
+    began: u64,
 }
 
-impl<'a, F: DiskFile> Model for StateFile<'a, F> {
+impl<'a, F: StateStorage> Model for StateFile<'a, F> {
+    ghost use Rattle.std.specs.Prelude.{◌-◌, ◌≤◌};
     ghost use Rattle.rme_durable_file.specs.FileStores.{FileStore};
 
     ghost Value = { FileStore };
@@ -36,22 +40,28 @@ impl<'a, F: DiskFile> Model for StateFile<'a, F> {
       bytes = F.contents state.file;
       works = state.works;
       syncs = state.syncs;
+      barriers = F.barriers state.file - state.began;
     } };
+
+    ghost invariant = { λ state. state.began ≤ F.barriers state.file };
 }
 
-impl<'a, F: DiskFile> StateFile<'a, F> {
+impl<'a, F: StateStorage> StateFile<'a, F> {
     ghost use Rattle.std.specs.Prelude.{◌≡◌, IfOk, OnErr, OnOk, true};
+    ghost use Rattle.rme_durable_log.specs.StoreCalls.{barriers_after};
     ghost use Rattle.rme_durable_file.specs.DiskFiles.{AppendsPartToFile, AppendsToFile};
     ghost use Rattle.rme_durable_file.specs.DiskFiles.{AreFileBytes, CutsFile, ReplacesFile};
 
-    /// The store of a file that is open and locked. Each append waits for the disk if `syncs`.
+    /// The store of a file that is open and locked, or of another storage. Each append waits for the disk if `syncs`.
     pub fn new(name: &'a StateName, file: F, syncs: bool) -> StateFile<'a, F>
         ensures bytes { result.bytes ≡ F.contents file }
         ensures works { result.works ≡ true }
         ensures syncs { result.syncs ≡ syncs }
+        ensures barriers { result.barriers ≡ 0 }
     {
         StateFile {
             name,
+            began: file.asked(),
             file,
             syncs,
             is_unsure: false,
@@ -100,14 +110,18 @@ impl<'a, F: DiskFile> StateFile<'a, F> {
         ensures kept { OnOk result (AppendsToFile self.old.bytes lines.now self.new.bytes) }
         ensures works { self.new.works ≡ self.old.works }
         ensures syncs { self.new.syncs ≡ self.old.syncs }
+        ensures barriers { self.new.barriers ≡ 0 }
     {
-        self.file.append(lines, self.syncs)
+        let written = self.file.append(lines, self.syncs);
+        self.began = self.file.asked();
+        written
     }
 
     /// Appends lines, if recovery would still find this file.
     fn append_if_named(&mut self, lines: &[u8]) -> Result<(), Cause>
         ensures kept { OnOk result (AppendsToFile self.old.bytes lines.now self.new.bytes) }
         ensures part { OnErr result (AppendsPartToFile self.old.bytes lines.now self.new.bytes) }
+        ensures asked { OnOk result (self.new.barriers ≡ barriers_after F.shared self.old.barriers) }
         ensures works { self.new.works ≡ self.old.works }
         ensures syncs { self.new.syncs ≡ self.old.syncs }
     {
@@ -132,6 +146,7 @@ impl<'a, F: DiskFile> StateFile<'a, F> {
         ensures same { OnErr result (self.new.bytes ≡ self.old.bytes) }
         ensures works { self.new.works ≡ self.old.works }
         ensures syncs { self.new.syncs ≡ self.old.syncs }
+        ensures barriers { self.new.barriers ≡ self.old.barriers }
     {
         match self.file.replace(bytes) {
             Ok(unsure) => {
@@ -146,19 +161,21 @@ impl<'a, F: DiskFile> StateFile<'a, F> {
     }
 }
 
-impl<F: DiskFile> LogStore for StateFile<'_, F> {
-    ghost use Rattle.std.specs.Prelude.{◌≡◌, OnErr, OnOk, false, not, true};
+impl<F: StateStorage> LogStore for StateFile<'_, F> {
+    ghost use Rattle.std.specs.Prelude.{◌≡◌, OnErr, OnOk, not, true};
     ghost use Rattle.rme_durable_log.specs.StoreCalls.{AppendsLines, FailsToAppend, ReplacesBytes, StopsStore};
     ghost use Rattle.rme_durable_file.specs.FileStores.{store_state};
 
-    ghost holds = { store_state };
+    ghost holds = { store_state F.shared };
 
-    ghost shared = { false };
+    ghost shared = { F.shared };
 
     fn append(&mut self, lines: &[u8]) -> Result<(), NotDurable>
         requires works { self.old.works ≡ true }
-        ensures kept { OnOk result (AppendsLines false (store_state self.old) lines.now (store_state self.new)) }
-        ensures part { OnErr result (FailsToAppend (store_state self.old) lines.now (store_state self.new)) }
+        ensures kept { OnOk result (AppendsLines F.shared (store_state F.shared self.old) lines.now
+            (store_state F.shared self.new)) }
+        ensures part { OnErr result (FailsToAppend (store_state F.shared self.old) lines.now
+            (store_state F.shared self.new)) }
         ensures syncs { self.new.syncs ≡ self.old.syncs }
     {
         match self.append_if_named(lines) {
@@ -176,9 +193,11 @@ impl<F: DiskFile> LogStore for StateFile<'_, F> {
 
     fn replace(&mut self, bytes: &[u8]) -> Result<(), NotDurable>
         requires works { self.old.works ≡ true }
-        ensures replaced { OnOk result (ReplacesBytes (store_state self.old) bytes.now (store_state self.new)) }
-        ensures same { OnErr result (store_state self.new ≡ store_state self.old) }
+        ensures replaced { OnOk result (ReplacesBytes (store_state F.shared self.old) bytes.now
+            (store_state F.shared self.new)) }
+        ensures same { OnErr result (store_state F.shared self.new ≡ store_state F.shared self.old) }
         ensures syncs { self.new.syncs ≡ self.old.syncs }
+        ensures barriers { self.new.barriers ≡ self.old.barriers }
     {
         self.name.change();
         let replaced = self.replace_with_new(bytes);
@@ -203,15 +222,15 @@ impl<F: DiskFile> LogStore for StateFile<'_, F> {
         !self.syncs
     }
 
-    /// The file is locked.
+    /// A locked file is not shared.
     fn is_shared(&self) -> bool
-        ensures { result ≡ false }
+        ensures { result ≡ F.shared }
     {
-        false
+        self.file.is_shared()
     }
 
     fn fail(&mut self)
-        ensures stops { StopsStore (store_state self.old) (store_state self.new) }
+        ensures stops { StopsStore (store_state F.shared self.old) (store_state F.shared self.new) }
         ensures syncs { self.new.syncs ≡ self.old.syncs }
     {
         self.works = false;

@@ -5,12 +5,12 @@ ghost use Rattle.std.specs.Prelude.{◌≡◌, IfOk, IfSome, true};
 
 use crate::cause::Cause;
 use crate::contents::{FileContents, WriteForm, line_in_file};
-use crate::disk_file::{DiskFile, FileReadError};
 use crate::faults::{in_use_fault, read_fault, write_fault};
 use crate::making::{create_whole, sync_folder};
 use crate::name::StateName;
 use crate::replacing::{ReplacedFile, is_still_named, remove_leftover, replace_file};
 use crate::state_file::StateFile;
+use crate::state_storage::{FileReadError, StateStorage};
 use rme_cli_messages::{BadArgument, CliFault, escape_controls};
 use rme_durable_writes::{SealError, WriteSealer};
 use std::alloc::Global;
@@ -154,10 +154,14 @@ fn open_locked(rt: &HostRuntime, path: &str) -> Result<File, CliFault> {
 }
 
 /// No contract knows what a file of the system holds.
-impl DiskFile for SystemFile<'_> {
-    ghost use Rattle.std.specs.Prelude.{None};
+impl StateStorage for SystemFile<'_> {
+    ghost use Rattle.std.specs.Prelude.{None, false};
 
     ghost contents = { λ _. None };
+
+    ghost shared = { false };
+
+    ghost barriers = { λ _. 0 };
 
     fn read_all(&mut self, alloc: Global) -> Result<Vec<u8>, FileReadError> {
         let mut bytes = Vec::new(alloc);
@@ -229,6 +233,15 @@ impl DiskFile for SystemFile<'_> {
         self.sealer.begin_log();
         self.is_sealed = true;
         Ok(unsure)
+    }
+
+    /// It is locked.
+    fn is_shared(&self) -> bool {
+        false
+    }
+
+    fn asked(&self) -> u64 {
+        0
     }
 }
 

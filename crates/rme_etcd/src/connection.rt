@@ -11,8 +11,8 @@ use std::time::Clock;
 
 /// The longest body of an answer.
 const MOST_BODY: usize = 64 * 1024 * 1024;
-/// The number of bytes of one read.
-const READ_LENGTH: usize = 65_536;
+/// The number of bytes of one read. They are on the stack of a session.
+const READ_LENGTH: usize = 8_192;
 /// The most headers of an answer.
 const MOST_HEADERS: usize = 64;
 

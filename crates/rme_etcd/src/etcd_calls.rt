@@ -90,6 +90,16 @@ impl EtcdCalls {
         }
     }
 
+    /// This time from now on; `None` if the clock cannot be read.
+    pub(crate) fn since(&self, limit: Duration) -> Option<TryDeadline> {
+        TryDeadline::start(&self.rt, limit)
+    }
+
+    /// Whether this time is over.
+    pub(crate) fn is_over(&self, deadline: TryDeadline) -> bool {
+        deadline.is_over(&self.rt)
+    }
+
     /// The body of the answer to this request. The same bytes are sent until a whole answer came.
     pub(crate) fn call(&mut self, path: &str, body: &[u8]) -> Result<Vec<u8>, EtcdFault> {
         let Some(deadline) = TryDeadline::start(&self.rt, self.limits.call) else {

@@ -3,13 +3,15 @@
 use crate::endpoint::Endpoint;
 use crate::etcd_calls::{CallLimits, EtcdCalls, EtcdUser};
 use crate::etcd_fault::EtcdFault;
+use crate::try_deadline::TryDeadline;
 use rme_etcd_requests::{
-    KeyRange, LogKeys, RangePage, RecordKeys, TransactionAnswer, add_request, clear_request,
-    create_request, head_request, head_text, is_request, page_request, range_page, read_head,
-    stage_request, transaction_answer,
+    KeyRange, LogKeys, RangePage, RecordKeys, TransactionAnswer, add_request, beat_request,
+    clear_request, create_request, head_request, head_text, is_request, page_request, range_page,
+    read_head, stage_request, transaction_answer,
 };
 use rme_replica::{Added, Head, LogEngine, Lost};
 use std::alloc::{AllocError, Global};
+use std::time::Duration;
 
 /// The path of transactions.
 const TRANSACTION: &str = "/v3/kv/txn";
@@ -19,8 +21,13 @@ const RANGE: &str = "/v3/kv/range";
 const PAGE: u64 = 16;
 /// How many times a log is read that is replaced meanwhile.
 const READS: u32 = 8;
+/// A leader that changed nothing for this number of seconds tells by a beat that it runs.
+const BEAT: u64 = 1;
 
 /// A log in etcd, as an engine. Of it no contract knows the log.
+///
+/// `is` beats if for a second no add and no beat was made. So a leader that asks at least once a second is never quiet
+/// for much longer.
 ///
 /// A call that failed tells why by `fault`. Where storage is used up or the user is refused, trying again is of no use.
 #[derive(Drop)]
@@ -30,6 +37,9 @@ pub struct EtcdEngine {
     keys: LogKeys,
     /// The number of beats.
     beats: u64,
+    /// Since when those who wait have been told that the writer runs; `None` if they were not, or if the clock cannot be
+    /// read.
+    told_since: Option<TryDeadline>,
     fault: Option<EtcdFault>,
 }
 
@@ -48,6 +58,7 @@ impl EtcdEngine {
             keys: LogKeys::new(alloc, name)?,
             calls: EtcdCalls::new(rt, endpoints, user, limits),
             beats: 0,
+            told_since: None,
             fault: None,
         })
     }
@@ -67,6 +78,12 @@ impl EtcdEngine {
     /// The head of the log; `None` if there is no log of this name.
     pub fn find_head(&mut self) -> Result<Option<Head>, Lost> {
         let outcome = self.try_find_head();
+        self.told(outcome)
+    }
+
+    /// The last beat of a writer; `None` if there was none. No two beats are equal.
+    pub fn find_beat(&mut self) -> Result<Option<Vec<u8>>, Lost> {
+        let outcome = self.try_find_beat();
         self.told(outcome)
     }
 
@@ -130,12 +147,24 @@ impl EtcdEngine {
     /// Reads the head.
     fn try_find_head(&mut self) -> Result<Option<Head>, EtcdFault> {
         let body = head_request(self.alloc, self.keys.head())?;
-        let answer = self.calls.call(RANGE, body.as_bytes())?;
-        let page = range_page(self.alloc, answer.as_slice())?;
-        match page.pairs.first() {
-            Some(pair) => Ok(Some(read_head(self.alloc, pair.value.as_slice())?)),
+        match self.first_value(body)? {
+            Some(text) => Ok(Some(read_head(self.alloc, text.as_slice())?)),
             None => Ok(None),
         }
+    }
+
+    /// Reads the beat.
+    fn try_find_beat(&mut self) -> Result<Option<Vec<u8>>, EtcdFault> {
+        let body = head_request(self.alloc, self.keys.beat())?;
+        self.first_value(body)
+    }
+
+    /// The value of the first key that a read finds.
+    fn first_value(&mut self, body: String) -> Result<Option<Vec<u8>>, EtcdFault> {
+        let answer = self.calls.call(RANGE, body.as_bytes())?;
+        let mut page = range_page(self.alloc, answer.as_slice())?;
+        page.pairs.truncate(1);
+        Ok(page.pairs.pop().map(|pair| pair.value))
     }
 
     /// Deletes other epochs.
@@ -238,7 +267,12 @@ impl EtcdEngine {
             record: record.as_bytes(),
         };
         let body = add_request(self.alloc, keys, seen.as_bytes(), next.as_bytes(), lines)?;
-        self.change(body)
+        let since = self.calls.since(Duration::from_secs(BEAT));
+        let added = self.change(body)?;
+        if let Added::Made = &added {
+            self.told_since = since;
+        }
+        Ok(added)
     }
 
     /// Stages one part.
@@ -255,11 +289,22 @@ impl EtcdEngine {
         self.change(body)
     }
 
-    /// Asks whether the log has this head.
+    /// Asks whether the log has this head, and beats if those who wait were told nothing for a second.
     fn try_is(&mut self, seen: &Head) -> Result<bool, EtcdFault> {
+        if self.is_beat_due() {
+            return self.try_beat(seen);
+        }
         let seen = head_text(self.alloc, seen)?;
         let body = is_request(self.alloc, self.keys.head(), seen.as_bytes())?;
         self.test(body)
+    }
+
+    /// Whether those who wait were told nothing for a second.
+    fn is_beat_due(&self) -> bool {
+        match self.told_since {
+            Some(since) => self.calls.is_over(since),
+            None => true,
+        }
     }
 
     /// Counts a beat.
@@ -269,12 +314,19 @@ impl EtcdEngine {
         let writer = hex::encode(self.alloc, seen.writer())?;
         let beat = format!(in self.alloc; "{writer} {beats}")?;
         let seen = head_text(self.alloc, seen)?;
-        let keys = RecordKeys {
-            head: self.keys.head(),
-            record: self.keys.beat(),
-        };
-        let body = stage_request(self.alloc, keys, seen.as_bytes(), beat.as_bytes())?;
-        self.test(body)
+        let body = beat_request(
+            self.alloc,
+            self.keys.head(),
+            seen.as_bytes(),
+            self.keys.beat(),
+            beat.as_bytes(),
+        )?;
+        let since = self.calls.since(Duration::from_secs(BEAT));
+        let has = self.test(body)?;
+        if has {
+            self.told_since = since;
+        }
+        Ok(has)
     }
 }
 

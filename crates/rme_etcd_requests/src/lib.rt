@@ -23,6 +23,6 @@ pub use head_codec::{head_text, read_head};
 pub use laws::head_is_its_text;
 pub use log_keys::LogKeys;
 pub use requests::{
-    KeyRange, RecordKeys, add_request, clear_request, create_request, head_request, is_request,
-    login_request, page_request, stage_request,
+    KeyRange, RecordKeys, add_request, beat_request, clear_request, create_request, head_request,
+    is_request, login_request, page_request, stage_request,
 };

@@ -81,8 +81,7 @@ pub fn add_request(
     Ok(text)
 }
 
-/// Puts one value, which no head names, if the head has the bytes that were seen. This stages a part, and tells that a
-/// writer runs.
+/// Puts one value, which no head names, if the head has the bytes that were seen. This stages a part.
 pub fn stage_request(
     alloc: Global,
     keys: RecordKeys<'_>,
@@ -96,6 +95,28 @@ pub fn stage_request(
     let put = put_key(alloc, keys.record, bytes)?;
     let operations = one(alloc, put)?;
     let otherwise = look_at(alloc, keys.head)?;
+    let whole = transaction(alloc, condition, operations, otherwise)?;
+    let text = whole.to_string(alloc)?;
+    Ok(text)
+}
+
+/// Asks whether the head has the bytes that were seen, and if so tells by a value that its writer runs. It reads the head
+/// in either case.
+pub fn beat_request(
+    alloc: Global,
+    head_key: &[u8],
+    seen: &[u8],
+    beat_key: &[u8],
+    beat: &[u8],
+) -> Result<String, AllocError>
+    ensures { IfOk result (λ text. read (string_bytes text) ≡ Some (spec.if_head_is head_key.now seen.now
+        (item (spec.put_key beat_key.now beat.now) (item (spec.look_at head_key.now) no_items)))) }
+{
+    let condition = key_is(alloc, head_key, seen)?;
+    let put_beat = put_key(alloc, beat_key, beat)?;
+    let look = look_at(alloc, head_key)?;
+    let operations = two(alloc, put_beat, look)?;
+    let otherwise = look_at(alloc, head_key)?;
     let whole = transaction(alloc, condition, operations, otherwise)?;
     let text = whole.to_string(alloc)?;
     Ok(text)

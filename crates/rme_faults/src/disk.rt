@@ -2,7 +2,7 @@
 
 use crate::defect::Defect;
 use crate::lines_of_file::{KnownLastJob, with_last_job};
-use rme_durable_file::{Cause, DiskFile, FileReadError};
+use rme_durable_file::{Cause, FileReadError, StateStorage};
 use rme_faults_model::Draws;
 use std::alloc::Global;
 use std::cell::Cell;
@@ -298,10 +298,14 @@ pub struct SimulatedFile<'a> {
     pub disk: &'a Disk<'a>,
 }
 
-impl DiskFile for SimulatedFile<'_> {
-    ghost use Rattle.std.specs.Prelude.{None};
+impl StateStorage for SimulatedFile<'_> {
+    ghost use Rattle.std.specs.Prelude.{None, false};
 
     ghost contents = { λ _. None };
+
+    ghost shared = { false };
+
+    ghost barriers = { λ _. 0 };
 
     fn read_all(&mut self, _alloc: Global) -> Result<Vec<u8>, FileReadError> {
         match self.disk.read() {
@@ -324,5 +328,13 @@ impl DiskFile for SimulatedFile<'_> {
 
     fn replace(&mut self, bytes: &[u8]) -> Result<Option<Cause>, Cause> {
         self.disk.replace_all(bytes)
+    }
+
+    fn is_shared(&self) -> bool {
+        false
+    }
+
+    fn asked(&self) -> u64 {
+        0
     }
 }

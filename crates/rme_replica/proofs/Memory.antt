@@ -1,5 +1,5 @@
 -- A log in memory, and another writer that may take it over.
-use Rattle.std.proofs.Common.{◌≡◌, ◌≢◌, ◌≤◌, ◌&&◌, ◌==◌, ◌⊎◌, inl, inr, ℕ, eqb, Bool, true, false, List, [], ◌∷◌, ◌++◌, ◌+◌, ◌-◌, ◌<◌, min, length, map, take, if◌then◌else◌, Some, refl, sym, ap, subst, ◌∙◌}
+use Rattle.std.proofs.Common.{◌≡◌, ◌≢◌, ◌≤◌, ◌&&◌, ◌==◌, inl, inr, ℕ, eqb, Bool, true, false, List, [], ◌∷◌, ◌++◌, ◌+◌, ◌-◌, ◌<◌, min, length, map, take, Some, refl, sym, ap, subst, ◌∙◌}
 use Rattle.std.specs.Str.{bytes_eq}
 use Rattle.std.specs.List.{concat}
 use Rattle.std.proofs.lemmas.List.{append-nil, map-append, map_more, take-map, take_min}
@@ -7,8 +7,8 @@ use Rattle.std.proofs.lemmas.List.Folds.{concat-append}
 use Rattle.std.proofs.Math.ListN.{get_or}
 use Rattle.std.proofs.lemmas.Slice.Eq.{bytes_eq-Decides}
 use Rattle.std.proofs.lemmas.Bool.{cases_Bool, eq-eqb, eqb-true, ne_eqb}
-use Rattle.rme_replica.specs.EngineLogs.{EngineLog, HeadValue, HasPartsBefore, FindsMoved, MayBeAdded, MayBeStaged, WasAdded, WasStaged, WasTakenOver, base_bytes}
-use Rattle.rme_replica.specs.MemoryLogs.{RivalMayCome, WasPut, bytes_named, head_eq, named_bytes}
+use Rattle.rme_replica.specs.EngineLogs.{EngineLog, HeadValue, HasPartsBefore, FindsMoved, MayBeAdded, MayBeStaged, WasAdded, WasStaged, base_bytes}
+use Rattle.rme_replica.specs.MemoryLogs.{RivalMayCome, WasPut, bytes_named, head_eq}
 use Rattle.rme_replica.specs.declared.named_bytes.NamedBytes.{NamedBytes}
 
 same_head : (head : HeadValue) → head_eq head head ≡ true

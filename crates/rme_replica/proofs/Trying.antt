@@ -1,5 +1,5 @@
 -- A try that finds the own next head.
-use Rattle.std.proofs.Common.{◌≡◌, ◌+◌, ◌⊎◌, inl, inr, ℕ, List, Option, Some, None, sym, ap, subst, ◌∙◌, arith}
+use Rattle.std.proofs.Common.{◌≡◌, ◌⊎◌, inl, inr, ℕ, List, Option, Some, None, sym, ap, subst, ◌∙◌, arith}
 use Rattle.rme_replica.specs.EngineLogs.{EngineLog, FindsMoved, HasHead, HeadValue, IsNextHead, LosesAdd, MakesAdd, MayBeAdded, MovesAdd, WasAdded}
 
 differs : (seen next : HeadValue) → IsNextHead seen next → next ≡ seen → ⊥

@@ -1,8 +1,9 @@
 -- A store over an engine.
-use Rattle.std.specs.Prelude.{◌≡◌, ℕ, ◌≤◌, ◌++◌, Bool, true, List, take, length, Option, Some, None, option_map, ⊤}
+use Rattle.std.specs.Prelude.{◌≡◌, ℕ, suc, ◌+◌, ◌≤◌, ◌++◌, Bool, true, List, take, length, string_bytes, Option, Some, None, option_map, ⊤}
 use Rattle.std.specs.List.{concat}
 use Rattle.rme_durable_log.specs.StoreCalls.{StoreState}
 use Rattle.rme_replica.specs.EngineLogs.{EngineLog, HasHead, HeadValue, placed}
+use Rattle.rme_replica.specs.declared.replica_log.Claimant.{Claimant}
 
 -- The head of the log and the bytes that the store's own head names, if they are known; that head; whether no append
 -- has failed; whether the store still takes lines: not once it was fenced, an answer stayed lost, or it was stopped; and
@@ -40,12 +41,28 @@ pub record ReplicaInvariant (log : Option EngineLog) (owns works : Bool) (head n
   pub working : owns ≡ true → works ≡ true
   pub same : next ≡ placed head next.epoch next.sequence
 
+-- The head by which a writer claims a log: its address and its mark, the next term, and one record more.
+pub record IsClaimedBy (seen : HeadValue) (by : Claimant) (head : HeadValue) : Type 0 where
+  pub address : head.address ≡ string_bytes by.address
+  pub writer : head.writer ≡ by.writer
+  pub term : head.term ≡ seen.term + 1
+  pub epoch : head.epoch ≡ seen.epoch
+  pub sequence : head.sequence ≡ seen.sequence + 1
+
 -- Lines were added behind all bytes.
 pub record AppendsToLog (old : ReplicaStore) (lines : List ℕ) (new : ReplicaStore) : Type 0 where
   pub bytes : new.bytes ≡ option_map (λ bytes. bytes ++ lines) old.bytes
   pub works : new.works ≡ old.works
   pub owns : new.owns ≡ true
   pub appends : new.appends ≡ old.appends
+
+-- A writer claimed the log, and added lines behind all bytes.
+pub record ClaimsLog (old : ReplicaStore) (by : Claimant) (lines : List ℕ) (new : ReplicaStore) : Type 0 where
+  pub head : IsClaimedBy old.head by new.head
+  pub bytes : new.bytes ≡ option_map (λ bytes. bytes ++ lines) old.bytes
+  pub works : new.works ≡ old.works
+  pub owns : new.owns ≡ true
+  pub appends : new.appends ≡ suc old.appends
 
 -- These bytes were put in place of all.
 pub record ReplacesLog (old : ReplicaStore) (bytes : List ℕ) (new : ReplicaStore) : Type 0 where

@@ -29,4 +29,4 @@ pub use laws::lost_add_is_made_once;
 pub use losses::Losses;
 pub use memory_engine::MemoryEngine;
 pub use ownership::Ownership;
-pub use replica_log::ReplicaLog;
+pub use replica_log::{Claimant, ReplicaLog};

@@ -11,6 +11,6 @@ pub enum Ownership {
     Unreachable,
     /// The head can count no more records or epochs.
     Full,
-    /// An event could not be written as a line.
+    /// An event could not be written as a line, or memory for a claim was refused.
     Stopped,
 }

@@ -1,11 +1,16 @@
 //! The store of a server's log on an engine.
 
+ghost use Rattle.std.specs.Prelude.{◌-◌, ◌<◌, ◌^◌};
+ghost use Rattle.rme_replica.specs.EngineLogs.{IsNextHead};
+ghost use Rattle.rme_replica.specs.ReplicaStores.{IsClaimedBy};
+
 use crate::engine::LogEngine;
 use crate::head::Head;
 use crate::ownership::Ownership;
 use crate::parts::{PART_LENGTH, stage_parts};
 use crate::tries::{Ask, add_repeatedly, ask_repeatedly};
 use rme_durable_log::{LogStore, NotDurable};
+use std::alloc::Global;
 use std::marker::Model;
 
 /// A log on an engine, as the store of a server's log. In contracts it is the engine's log, if it is known, the head
@@ -46,12 +51,19 @@ impl<E: LogEngine> Model for ReplicaLog<E> {
         store.head store.next };
 }
 
+/// Who claims a log: where it is reached, and the mark of its run, which no head had before.
+#[derive(Drop)]
+pub struct Claimant {
+    pub address: String,
+    pub writer: [u8; 12],
+}
+
 impl<E: LogEngine> ReplicaLog<E> {
     ghost use Rattle.std.specs.Prelude.{◌≡◌, IfErr, OnErr, OnOk, true};
     ghost use Rattle.std.specs.Prelude.{false};
     ghost use Rattle.rme_replica.specs.EngineLogs.{HasHead};
     ghost use Rattle.rme_replica.specs.ReplicaStores.{AppendsToLog, IsOwn, KeepsLog, ReplacesLog, log_top};
-    ghost use Rattle.rme_replica.specs.ReplicaStores.{own_bytes};
+    ghost use Rattle.rme_replica.specs.ReplicaStores.{ClaimsLog, own_bytes};
     ghost use Rattle.rme_replica.specs.Ownerships.{StopsOwner, owns};
 
     /// The store of a log that has this head, which the caller claimed, and a copy of the head.
@@ -91,11 +103,56 @@ impl<E: LogEngine> ReplicaLog<E> {
         engine
     }
 
+    /// The number of appends, the claim among them.
+    pub fn appends(&self) -> u64
+        ensures { result ≡ self.now.appends }
+    {
+        self.appends
+    }
+
     /// Whether the store takes lines, and why not.
     pub fn ownership(&self) -> Ownership
         ensures { self.now.owns ≡ owns result }
     {
         self.ownership
+    }
+
+    /// Claims the log for another writer: adds these lines under a head of the next term, with this writer's address and
+    /// mark. It is made only where the log still has the head that this store knows.
+    ///
+    /// After an error the store takes no lines: nothing is known to be claimed.
+    pub fn claim(&mut self, alloc: Global, by: Claimant, lines: &[u8]) -> Result<(), NotDurable>
+        ensures made { OnOk result (ClaimsLog self.old by lines.now self.new) }
+        ensures lost { OnErr result (KeepsLog self.old self.new) }
+        ensures stops { OnErr result (self.new.owns ≡ false) }
+        ensures fenced { OnOk result (self.old.owns ≡ true) }
+    {
+        let Ok(()) = self.check_owner() else {
+            return Err(NotDurable);
+        };
+        let appends = self.appends;
+        let most = self.head.term().max(self.head.sequence()).max(appends);
+        if most == u64::MAX {
+            self.ownership = Ownership::Full;
+            return Err(NotDurable);
+        }
+        let next = claimed_head(&self.head, by);
+        let Ok(copy) = next.copy(alloc) else {
+            self.ownership = Ownership::Stopped;
+            return Err(NotDurable);
+        };
+        match add_repeatedly(&mut self.engine, &self.head, &next, lines) {
+            Ok(()) => {
+                self.head = next;
+                self.next = copy;
+                self.appends = appends + 1;
+                Ok(())
+            }
+            Err(ownership) => {
+                self.ownership = ownership;
+                Err(NotDurable)
+            }
+        }
     }
 
     /// Whether at some moment of this call the log was this store's own. After an error the store takes no more lines,
@@ -207,6 +264,7 @@ impl<E: LogEngine> ReplicaLog<E> {
         ensures lost { OnErr result (KeepsLog self.old self.new) }
         ensures ends { OnErr result (self.new.owns ≡ false) }
         ensures fenced { OnOk result (self.old.owns ≡ true) }
+        ensures working { OnOk result (self.old.works ≡ true) }
         ensures stops { IfErr result StopsOwner }
     {
         match self.check_owner() {
@@ -254,6 +312,8 @@ impl<E: LogEngine> LogStore for ReplicaLog<E> {
     fn append(&mut self, lines: &[u8]) -> Result<(), NotDurable>
         ensures kept { OnOk result (AppendsLines true (replica_state self.old) lines.now (replica_state self.new)) }
         ensures part { OnErr result (FailsToAppend (replica_state self.old) lines.now (replica_state self.new)) }
+        ensures same { OnErr result (self.new.bytes ≡ self.old.bytes) }
+        ensures unasked { OnErr result (self.new.appends ≡ self.old.appends) }
         ensures fenced { OnOk result (self.old.owns ≡ true) }
         ensures stays { self.new.owns ≡ true → self.old.owns ≡ true }
         ensures stops { OnErr result (self.new.owns ≡ false) }
@@ -278,9 +338,9 @@ impl<E: LogEngine> LogStore for ReplicaLog<E> {
     /// After an error the store takes no more lines, and the next append fails: the next head may be in the log, or a
     /// lost part may come late, in the place of a part that is staged after it.
     fn replace(&mut self, bytes: &[u8]) -> Result<(), NotDurable>
-        requires works { self.old.works ≡ true }
         ensures replaced { OnOk result (ReplacesBytes (replica_state self.old) bytes.now (replica_state self.new)) }
         ensures same { OnErr result (replica_state self.new ≡ replica_state self.old) }
+        ensures appends { self.new.appends ≡ self.old.appends }
         ensures fenced { OnOk result (self.old.owns ≡ true) }
         ensures stays { self.new.owns ≡ true → self.old.owns ≡ true }
         ensures stops { OnErr result (self.new.owns ≡ false) }
@@ -308,8 +368,21 @@ impl<E: LogEngine> LogStore for ReplicaLog<E> {
     fn fail(&mut self)
         ensures stops { StopsStore (replica_state self.old) (replica_state self.new) }
         ensures fenced { self.new.owns ≡ false }
+        ensures appends { self.new.appends ≡ self.old.appends }
     {
         self.works = false;
         self.ownership = Ownership::Stopped;
     }
+}
+
+/// The head by which a writer claims a log that has this head: one record more, and the next term.
+fn claimed_head(seen: &Head, by: Claimant) -> Head
+    requires term { seen.now.term < 2 ^ 64 - 1 }
+    requires sequence { seen.now.sequence < 2 ^ 64 - 1 }
+    ensures claimed { IsClaimedBy seen.now by result }
+    ensures next { IsNextHead seen.now result }
+{
+    let mut next = Head::new(by.address, seen.term() + 1, by.writer);
+    next.set_place(seen.epoch(), seen.sequence() + 1);
+    next
 }

@@ -6,7 +6,8 @@ ghost use Rattle.rme_durable_file.specs.Starts.{BeginsKnownServer};
 use crate::recovery::{HEADER, OPEN};
 use rme_cli_messages::CliFault;
 use rme_durable_file::{
-    Cause, ContentsError, DiskFile, FileReadError, OpenedState, RecoveredFile, StateFile, StateName,
+    Cause, ContentsError, FileReadError, OpenedState, RecoveredFile, StateFile, StateName,
+    StateStorage,
 };
 use rme_wire::{GivenNames, Names};
 use rme_words::Shape;
@@ -21,10 +22,14 @@ struct MemoryFile {
     bytes: Vec<u8>,
 }
 
-impl DiskFile for MemoryFile {
-    ghost use Rattle.std.specs.Prelude.{None};
+impl StateStorage for MemoryFile {
+    ghost use Rattle.std.specs.Prelude.{None, false};
 
     ghost contents = { λ _. None };
+
+    ghost shared = { false };
+
+    ghost barriers = { λ _. 0 };
 
     fn read_all(&mut self, alloc: Global) -> Result<Vec<u8>, FileReadError> {
         match self.bytes.to_vec(alloc) {
@@ -51,6 +56,14 @@ impl DiskFile for MemoryFile {
         self.bytes.extend_from_slice(bytes)?;
         Ok(None)
     }
+
+    fn is_shared(&self) -> bool {
+        false
+    }
+
+    fn asked(&self) -> u64 {
+        0
+    }
 }
 
 /// A job of the client, and all its steps.
@@ -74,7 +87,7 @@ pub fn two_names(alloc: Global) -> Result<Names, CliFault> {
 }
 
 /// The start of a server with a file, whose appends wait for the disk if `syncs`.
-fn start_with<'a, F: DiskFile>(
+fn start_with<'a, F: StateStorage>(
     rt: &HostRuntime,
     name: &'a StateName,
     file: F,

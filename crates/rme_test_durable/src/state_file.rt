@@ -1,7 +1,7 @@
 //! The fault of a file that is no state, and whether the store of a file is quick.
 
 use rme_cli_messages::CliFault;
-use rme_durable_file::{Cause, DiskFile, FileReadError, StateFile, StateName, bad_log_fault};
+use rme_durable_file::{Cause, FileReadError, StateFile, StateName, StateStorage, bad_log_fault};
 use rme_durable_format::BadLog;
 use rme_durable_log::LogStore;
 use std::alloc::{AllocError, Global};
@@ -46,10 +46,14 @@ fn refused_memory_is_a_cause_of_its_own(rt: HostRuntime) -> Result<(), Fail> {
 #[derive(Drop)]
 struct EmptyFile;
 
-impl DiskFile for EmptyFile {
-    ghost use Rattle.std.specs.Prelude.{None};
+impl StateStorage for EmptyFile {
+    ghost use Rattle.std.specs.Prelude.{None, false};
 
     ghost contents = { λ _. None };
+
+    ghost shared = { false };
+
+    ghost barriers = { λ _. 0 };
 
     fn read_all(&mut self, alloc: Global) -> Result<Vec<u8>, FileReadError> {
         Ok(Vec::new(alloc))
@@ -69,6 +73,14 @@ impl DiskFile for EmptyFile {
 
     fn replace(&mut self, _bytes: &[u8]) -> Result<Option<Cause>, Cause> {
         Ok(None)
+    }
+
+    fn is_shared(&self) -> bool {
+        false
+    }
+
+    fn asked(&self) -> u64 {
+        0
     }
 }
 

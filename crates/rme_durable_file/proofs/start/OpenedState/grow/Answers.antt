@@ -1,4 +1,4 @@
-use Rattle.std.proofs.Common.{refl, subst, sym}
+use Rattle.std.proofs.Common.{refl}
 use Rattle.rme_durable_file.proofs.Rewriting.{replaces_appended}
 use Rattle.rme_durable_file.proofs.start.OpenedState.grow.Goals as goal
 

@@ -1,4 +1,4 @@
-use Rattle.std.proofs.Common.{◌≡◌, ◌∙◌, inl, subst}
+use Rattle.std.proofs.Common.{◌∙◌, inl, subst}
 use Rattle.rme_replica.specs.EngineLogs.{EngineLog}
 use Rattle.rme_replica.specs.KnownLogs.{log_of}
 use Rattle.rme_replica.specs.MemoryLogs.{RivalMayCome}

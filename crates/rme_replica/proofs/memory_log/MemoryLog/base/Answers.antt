@@ -1,5 +1,4 @@
-use Rattle.std.proofs.Common.{◌≡◌, ◌≢◌, ◌∙◌, ◌-◌, ap, take, sym, ℕ}
-use Rattle.std.specs.List.{concat}
+use Rattle.std.proofs.Common.{◌≡◌, ◌≢◌, ◌∙◌, ◌-◌, ap, sym, ℕ}
 use Rattle.rme_replica.specs.KnownLogs.{log_of}
 use Rattle.rme_replica.specs.MemoryLogs.{joined_parts}
 use Rattle.rme_replica.proofs.Memory.{next_base, same_base}

@@ -1,4 +1,4 @@
-use Rattle.std.proofs.Common.{ap, ◌∙◌, ◌++◌, ◌<◌, ◌≡◌, min, map, take, sym, subst, arith, length, List, ℕ}
+use Rattle.std.proofs.Common.{ap, ◌∙◌, ◌++◌, ◌<◌, ◌≡◌, min, map, take, arith, length, List, ℕ}
 use Rattle.std.specs.List.{concat}
 use Rattle.rme_replica.specs.KnownLogs.{log_of}
 use Rattle.rme_replica.proofs.Memory.{all_joined, one_more_joined}

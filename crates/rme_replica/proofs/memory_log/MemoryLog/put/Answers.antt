@@ -1,4 +1,4 @@
-use Rattle.std.proofs.Common.{◌∙◌, ap, map, refl}
+use Rattle.std.proofs.Common.{◌∙◌, refl}
 use Rattle.rme_replica.specs.KnownLogs.{log_of}
 use Rattle.rme_replica.proofs.Memory.{was_put}
 use Rattle.rme_replica.proofs.memory_log.MemoryLog.put.Goals as goal

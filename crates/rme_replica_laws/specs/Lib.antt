@@ -1,0 +1,2 @@
+-- All that was ever put to one log, and its laws.
+pub mod Puts
