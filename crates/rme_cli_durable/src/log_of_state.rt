@@ -4,20 +4,53 @@ ghost use Rattle.std.specs.Prelude.{◌≡◌, true};
 
 use rme_durable_epochs::EpochExecutor;
 use rme_durable_file::{OpenedState, StateFile, SystemFile};
-use rme_durable_log::OpenLog;
+use rme_durable_log::{LogStore, NotDurable, OpenLog};
 use rme_durable_metrics::MeteredStore;
 use rme_metrics::LogCounters;
 use rme_wire::Names;
 
 /// The file of a state as the store of its log, whose writes are counted.
-pub type ServedLog<'a> = MeteredStore<'a, StateFile<'a, SystemFile<'a>>, HostRuntime>;
-
-/// A state with the log that is opened over its file.
 #[derive(Drop)]
-pub struct StateAndLog<'a> {
+pub struct ServedLog<'a> {
+    metered: MeteredStore<'a, StateFile<'a, SystemFile<'a>>, HostRuntime>,
+}
+
+/// Each call is as that of the file. The type has one lifetime, as a call that chooses the tag of a log asks for.
+impl LogStore for ServedLog<'_> {
+    ghost use Rattle.std.specs.Prelude.{false};
+    ghost use Rattle.rme_durable_file.specs.FileStores.{store_state};
+
+    ghost holds = { λ served. store_state false served.metered.store };
+
+    ghost shared = { false };
+
+    fn append(&mut self, lines: &[u8]) -> Result<(), NotDurable> {
+        self.metered.append(lines)
+    }
+
+    fn replace(&mut self, bytes: &[u8]) -> Result<(), NotDurable> {
+        self.metered.replace(bytes)
+    }
+
+    fn is_quick(&self) -> bool {
+        self.metered.is_quick()
+    }
+
+    fn is_shared(&self) -> bool {
+        self.metered.is_shared()
+    }
+
+    fn fail(&mut self) {
+        self.metered.fail();
+    }
+}
+
+/// A state with its open log.
+#[derive(Drop)]
+pub struct StateAndLog<L: LogStore> {
     pub names: Names,
     pub executor: EpochExecutor,
-    pub log: OpenLog<ServedLog<'a>>,
+    pub log: OpenLog<L>,
 }
 
 /// A state with a log over its file. If there are counters, its writes are counted.
@@ -25,7 +58,7 @@ pub fn state_and_log<'a>(
     rt: &'a HostRuntime,
     counters: Option<&'a LogCounters>,
     opened: OpenedState<'a, SystemFile<'a>>,
-) -> StateAndLog<'a>
+) -> StateAndLog<ServedLog<'a>>
     requires works { opened.file.works ≡ true }
     ensures names { result.names ≡ opened.entry.names }
     ensures executor { result.executor ≡ opened.entry.executor }
@@ -33,10 +66,12 @@ pub fn state_and_log<'a>(
     StateAndLog {
         names: opened.names,
         executor: opened.executor,
-        log: OpenLog::new(MeteredStore {
-            store: opened.file,
-            counters,
-            clock: rt,
+        log: OpenLog::new(ServedLog {
+            metered: MeteredStore {
+                store: opened.file,
+                counters,
+                clock: rt,
+            },
         }),
     }
 }

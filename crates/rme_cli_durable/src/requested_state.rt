@@ -23,25 +23,25 @@ const MOST_WORKERS: u32 = 255;
 
 /// The requested state.
 #[derive(Drop)]
-pub(crate) struct ServerConfig {
-    pub(crate) path: String,
-    pub(crate) workers: Option<u32>,
-    pub(crate) cells: Option<u32>,
-    pub(crate) jobs: Option<u32>,
-    pub(crate) locks: Vec<String>,
-    pub(crate) syncs: bool,
+pub struct ServerConfig {
+    pub path: String,
+    pub workers: Option<u32>,
+    pub cells: Option<u32>,
+    pub jobs: Option<u32>,
+    pub locks: Vec<String>,
+    pub syncs: bool,
 }
 
 /// What a state becomes by a request for more than it has: the names of all locks, of which its own are the first, and
 /// its larger shape.
 #[derive(Drop)]
-pub(crate) struct Growth {
-    pub(crate) names: Names,
-    pub(crate) shape: Shape,
+pub struct Growth {
+    pub names: Names,
+    pub shape: Shape,
 }
 
 /// The lines of a new state.
-pub(crate) fn first_lines(rt: &HostRuntime, asked: &ServerConfig) -> Result<String, CliFault> {
+pub fn first_lines(rt: &HostRuntime, asked: &ServerConfig) -> Result<String, CliFault> {
     let alloc = rt.alloc();
     if asked.locks.as_slice().is_empty() {
         let path = escape_controls(alloc, asked.path.as_str())?;
@@ -134,7 +134,7 @@ fn jobs_for(jobs: u32, locks: u32, cells: u32) -> u32 {
 
 /// What a request adds to a state; `None` if the state has all of it. A request is refused that has fewer workers,
 /// cells or locks than the state, another number of jobs, or other names in the place of those that the state has.
-pub(crate) fn growth_of(
+pub fn growth_of(
     rt: &HostRuntime,
     asked: &ServerConfig,
     log: &RecoveredLog,

@@ -1,5 +1,6 @@
 //! What a durable server shows over HTTP.
 
+use crate::state_watch::StateWatch;
 use rme_cli_http::{StatusText, look_up_status, state_metrics_text};
 use rme_durable_server::{DurableServer, LogStore, ServerTag};
 use rme_http::Pages;
@@ -7,22 +8,20 @@ use rme_metrics::{LogCounters, ServerCounters};
 use rme_session_loop::Backend;
 use rme_session_server::Closer;
 use rme_words::NoMemory;
-use std::fs;
 use std::sync::Wait;
 use std::time::Clock;
 
 /// The pages of a durable server. A request for a space finds nothing.
 #[derive(Drop)]
-pub(crate) struct StatePages<'a, L: LogStore, J: ServerTag> {
+pub(crate) struct StatePages<'a, L: LogStore, J: ServerTag, W> {
     pub(crate) rt: &'a HostRuntime,
     pub(crate) kept: &'a DurableServer<L, Closer, J>,
     pub(crate) counters: &'a ServerCounters,
     pub(crate) log: &'a LogCounters,
-    /// The path of the state's file.
-    pub(crate) path: &'a str,
+    pub(crate) watch: &'a W,
 }
 
-impl<L: LogStore, J: ServerTag> Pages for StatePages<'_, L, J> {
+impl<L: LogStore, J: ServerTag, W: StateWatch> Pages for StatePages<'_, L, J, W> {
     ghost use Rattle.std.specs.Prelude.{None};
     ghost use Rattle.rme_cli_http.specs.MetricsTexts.{IsMetricsText};
     ghost use Rattle.rme_cli_http.specs.StatusLookUps.{AnswersStatus};
@@ -48,7 +47,7 @@ impl<L: LogStore, J: ServerTag> Pages for StatePages<'_, L, J> {
         let status = match &found {
             Some(text) => Some(StatusText {
                 text: text.as_str(),
-                file_bytes: self.file_bytes(),
+                file_bytes: self.watch.bytes(self.rt),
             }),
             None => None,
         };
@@ -75,15 +74,5 @@ impl<L: LogStore, J: ServerTag> Pages for StatePages<'_, L, J> {
 
     fn is_healthy<R: Wait + Clock>(&self, rt: &R) -> bool {
         !self.kept.is_over(rt)
-    }
-}
-
-impl<L: LogStore, J: ServerTag> StatePages<'_, L, J> {
-    /// The bytes of the state's file; 0 if they can't be told.
-    fn file_bytes(&self) -> u64 {
-        match fs::metadata(self.rt, self.path) {
-            Ok(found) => found.len(),
-            Err(_) => 0,
-        }
     }
 }

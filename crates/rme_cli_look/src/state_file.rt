@@ -10,7 +10,9 @@ use crate::table::text_of;
 use rme_cli_messages::CliFault;
 use rme_cli_options::OutputFormat;
 use rme_durable_epochs::Sections;
-use rme_durable_file::{ContentsError, FileContents, bad_log_fault, contents_fault, line_in_file};
+use rme_durable_file::{
+    ContentsError, FileContents, bad_log_fault, contents_fault, line_in_file, write_end,
+};
 use rme_durable_format::{BadLog, NoProgress, whole_lines};
 use rme_durable_lookups::{
     LockStatus, StatusSource, WorkerStatus, clients_of, lock_status, push_status, worker_status,
@@ -21,38 +23,119 @@ use rme_waiting::world_words;
 use rme_words::{Bank, NoMemory};
 use std::alloc::{AllocError, Global};
 
+/// The bytes of a state.
+#[derive(Clone, Copy)]
+pub(crate) struct StateBytes<'a> {
+    /// What faults call it.
+    pub(crate) path: &'a str,
+    pub(crate) bytes: &'a [u8],
+    /// Whether they may end with what was never known to be with the disk.
+    pub(crate) may_be_torn: bool,
+}
+
+/// A state that was read.
+#[derive(Drop)]
+struct StateOfBytes {
+    recovered: RecoveredState,
+    /// The number of bytes whose lines are the log's; in version 1 they may end with a torn line.
+    length: usize,
+    /// The number of bytes of whole lines among them.
+    whole: usize,
+}
+
+/// Why a start accepts no state.
+#[derive(Drop)]
+enum NoStateFault {
+    /// This line is refused.
+    Line(u64, CliFault),
+    Other(CliFault),
+}
+
+impl NoStateFault {
+    fn into_fault(self) -> CliFault {
+        match self {
+            NoStateFault::Line(_, fault) => fault,
+            NoStateFault::Other(fault) => fault,
+        }
+    }
+}
+
+impl From<CliFault> for NoStateFault {
+    fn from(fault: CliFault) -> NoStateFault {
+        NoStateFault::Other(fault)
+    }
+}
+
+/// The state of these bytes.
+fn state_of(rt: &HostRuntime, source: StateBytes<'_>) -> Result<StateOfBytes, NoStateFault> {
+    let StateBytes { path, bytes, .. } = source;
+    let contents = contents_of(rt, source)?;
+    let lines = contents.lines.as_slice();
+    let whole = whole_lines(lines);
+    let torn = lines.len().saturating_sub(whole.len());
+    match recover(rt.alloc(), whole, &NoProgress) {
+        Ok(recovered) => Ok(StateOfBytes {
+            recovered,
+            length: contents.length,
+            whole: contents.length.saturating_sub(torn),
+        }),
+        Err(BadLog::Line(line)) => {
+            let line = line_in_file(rt.alloc(), bytes, line);
+            let fault = bad_log_fault(rt, path, lines, BadLog::Line(line))?;
+            Err(NoStateFault::Line(line, fault))
+        }
+        Err(BadLog::NoMemory) => Err(NoStateFault::Other(CliFault::NoMemory)),
+    }
+}
+
+/// The lines of these bytes.
+fn contents_of(rt: &HostRuntime, source: StateBytes<'_>) -> Result<FileContents, NoStateFault> {
+    let StateBytes {
+        path,
+        bytes,
+        may_be_torn,
+    } = source;
+    let line = match FileContents::of(rt.alloc(), bytes) {
+        Ok(contents) if may_be_torn || contents.length == bytes.len() => return Ok(contents),
+        Ok(contents) => write_end(bytes, contents.length),
+        Err(ContentsError::Changed(line)) => line,
+        Err(ContentsError::NoMemory) => return Err(NoStateFault::Other(CliFault::NoMemory)),
+    };
+    let fault = contents_fault(rt, path, ContentsError::Changed(line))?;
+    Err(NoStateFault::Line(line, fault))
+}
+
+/// The bytes of a state that a start keeps.
+pub(crate) fn kept_bytes<'a>(
+    rt: &HostRuntime,
+    source: StateBytes<'a>,
+) -> Result<&'a [u8], CliFault> {
+    let bytes = source.bytes;
+    match state_of(rt, source) {
+        Ok(state) => Ok(&bytes[..state.whole.min(bytes.len())]),
+        Err(why) => Err(why.into_fault()),
+    }
+}
+
 /// Appends the contents of a state, and answers the status of the process.
 pub(crate) fn push_state(
     out: &mut String,
     rt: &HostRuntime,
-    path: &str,
-    bytes: &[u8],
+    source: StateBytes<'_>,
     form: OutputFormat,
 ) -> Result<u8, CliFault> {
-    let contents = match FileContents::of(rt.alloc(), bytes) {
-        Ok(contents) => contents,
-        Err(ContentsError::Changed(line)) if form == OutputFormat::Check => {
+    let state = match state_of(rt, source) {
+        Ok(state) => state,
+        Err(NoStateFault::Line(line, _)) if form == OutputFormat::Check => {
             return push_refused_line(out, line);
         }
-        Err(why) => return Err(contents_fault(rt, path, why)?),
-    };
-    let lines = contents.lines.as_slice();
-    let recovered = match recover(rt.alloc(), whole_lines(lines), &NoProgress) {
-        Ok(recovered) => recovered,
-        Err(BadLog::Line(line)) if form == OutputFormat::Check => {
-            return push_refused_line(out, line_in_file(rt.alloc(), bytes, line));
-        }
-        Err(BadLog::Line(line)) => {
-            let why = BadLog::Line(line_in_file(rt.alloc(), bytes, line));
-            return Err(bad_log_fault(rt, path, lines, why)?);
-        }
-        Err(BadLog::NoMemory) => return Err(CliFault::NoMemory),
+        Err(why) => return Err(why.into_fault()),
     };
     match form {
-        OutputFormat::Check => push_accepted(out, bytes, contents.length),
-        OutputFormat::Json => Ok(push_json(out, &recovered)?),
-        OutputFormat::Tables => Ok(push_tables(out, rt.alloc(), &recovered, false)?),
-        OutputFormat::AllTables => Ok(push_tables(out, rt.alloc(), &recovered, true)?),
+        OutputFormat::Check => push_accepted(out, source.bytes, state.length),
+        OutputFormat::Json => Ok(push_json(out, &state.recovered)?),
+        OutputFormat::AllTables => Ok(push_tables(out, rt.alloc(), &state.recovered, true)?),
+        _ => Ok(push_tables(out, rt.alloc(), &state.recovered, false)?),
     }
 }
 

@@ -4,7 +4,7 @@ use crate::arguments::{
     ArgumentKind, ArgumentSpec, ArgumentValue, command_of, option_of, optional, required,
     text_option, why, with_arguments,
 };
-use crate::{ask_arguments, help_texts, serve_arguments};
+use crate::{ask_arguments, cluster_arguments, help_texts, serve_arguments};
 use clap::Command;
 use std::alloc::{AllocError, Global};
 
@@ -18,11 +18,12 @@ enum CommandName {
     Threads,
     Serve,
     Look,
+    Move,
     Ask,
 }
 
 /// The commands, in the order of help.
-const COMMANDS: [CommandName; 8] = [
+const COMMANDS: [CommandName; 9] = [
     CommandName::Run,
     CommandName::Check,
     CommandName::Draw,
@@ -30,6 +31,7 @@ const COMMANDS: [CommandName; 8] = [
     CommandName::Threads,
     CommandName::Serve,
     CommandName::Look,
+    CommandName::Move,
     CommandName::Ask,
 ];
 
@@ -60,6 +62,7 @@ fn command_named<'a>(alloc: Global, named: CommandName) -> Result<Command<'a>, A
         CommandName::Threads => threads_command(alloc),
         CommandName::Serve => serve_command(alloc),
         CommandName::Look => look_command(alloc),
+        CommandName::Move => move_command(alloc),
         CommandName::Ask => ask_command(alloc),
     }
 }
@@ -216,6 +219,8 @@ fn serve_command<'a>(alloc: Global) -> Result<Command<'a>, AllocError> {
     let files = serve_arguments::files();
     let policies = serve_arguments::policies();
     let sessions = serve_arguments::sessions();
+    let cluster = cluster_arguments::cluster();
+    let leader = cluster_arguments::leader();
     let others = serve_arguments::others();
     let command = command_of(
         alloc,
@@ -228,24 +233,27 @@ fn serve_command<'a>(alloc: Global) -> Result<Command<'a>, AllocError> {
     let command = with_arguments(alloc, command, &files)?;
     let command = with_arguments(alloc, command, &policies)?;
     let command = with_arguments(alloc, command, &sessions)?;
+    let command = with_arguments(alloc, command, &cluster)?;
+    let command = with_arguments(alloc, command, &leader)?;
     with_arguments(alloc, command, &others)
 }
 
 fn look_command<'a>(alloc: Global) -> Result<Command<'a>, AllocError> {
     let words = look_arguments();
-    command_of(
+    let command = command_of(
         alloc,
         "look",
         help_texts::look_about(),
         help_texts::look_lines(),
         &words,
-    )
+    )?;
+    with_arguments(alloc, command, &cluster_arguments::cluster())
 }
 
-fn look_arguments<'a>() -> [ArgumentSpec<'a>; 4] {
+fn look_arguments<'a>() -> [ArgumentSpec<'a>; 5] {
     [
         ArgumentSpec {
-            conflicts: &["check", "json"],
+            conflicts: &["check", "json", "lines"],
             ..optional(
                 "all",
                 ArgumentKind::Flag('a'),
@@ -253,25 +261,58 @@ fn look_arguments<'a>() -> [ArgumentSpec<'a>; 4] {
             )
         },
         ArgumentSpec {
-            conflicts: &["check"],
+            conflicts: &["check", "lines"],
             ..optional(
                 "json",
                 ArgumentKind::Flag('j'),
                 "Prints it as the order `status` is answered",
             )
         },
+        ArgumentSpec {
+            conflicts: &["lines"],
+            ..optional(
+                "check",
+                ArgumentKind::Flag('c'),
+                "Says whether all of it can be read",
+            )
+        },
         optional(
-            "check",
-            ArgumentKind::Flag('c'),
-            "Says whether all of the file can be read",
+            "lines",
+            ArgumentKind::Flag('l'),
+            "Prints the bytes of its state file: a copy to keep",
         ),
         required(
             ArgumentKind::Argument,
             ArgumentValue::Text,
             "FILE",
-            "The file that `rme serve --state` keeps, or that `rme_create` made for processes",
+            "The file that `rme serve --state` keeps, or that `rme_create` made for processes; or etcd:NAME",
         ),
     ]
+}
+
+fn move_command<'a>(alloc: Global) -> Result<Command<'a>, AllocError> {
+    let words = [
+        required(
+            ArgumentKind::Argument,
+            ArgumentValue::Text,
+            "FROM",
+            "The state that is moved: a FILE, or etcd:NAME",
+        ),
+        required(
+            ArgumentKind::Argument,
+            ArgumentValue::Text,
+            "TO",
+            "Its new place, where nothing is yet: etcd:NAME, or a FILE",
+        ),
+    ];
+    let command = command_of(
+        alloc,
+        "move",
+        help_texts::move_about(),
+        help_texts::move_lines(),
+        &words,
+    )?;
+    with_arguments(alloc, command, &cluster_arguments::cluster())
 }
 
 fn ask_command<'a>(alloc: Global) -> Result<Command<'a>, AllocError> {

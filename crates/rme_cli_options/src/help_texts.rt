@@ -241,6 +241,42 @@ pub fn state_options_alone<'a>() -> &'a str {
     "--sync, --waiting and --sections are options of --state and --spaces"
 }
 
+pub fn log_name_wanted<'a>() -> &'a str {
+    "the name of a log, behind etcd:, has 1 to 64 of a-z 0-9 _ -"
+}
+
+pub fn engine_wanted<'a>() -> &'a str {
+    "etcd:NAME needs --engine HOST:PORT, the nodes of the cluster, with commas between"
+}
+
+pub fn node_wanted<'a>() -> &'a str {
+    "--engine takes HOST:PORT of each node, with commas between, as 10.0.0.1:2379,10.0.0.2:2379"
+}
+
+pub fn address_wanted<'a>() -> &'a str {
+    "--state etcd:NAME needs --name ADDRESS: where clients reach this server, as db1:7000"
+}
+
+pub fn other_address_wanted<'a>() -> &'a str {
+    "the ADDRESS of --name has 1 to 255 printable characters of ASCII, and no spaces"
+}
+
+pub fn folder_wanted<'a>() -> &'a str {
+    "--spaces takes a folder: spaces are not kept in a cluster"
+}
+
+pub fn sync_with_files<'a>() -> &'a str {
+    "--sync is an option of files: with etcd:NAME each answer waits until the cluster has it"
+}
+
+pub fn leader_options_alone<'a>() -> &'a str {
+    "--engine, --patience, --user, --password-file, --name, --quiet and --take are options of --state etcd:NAME"
+}
+
+pub fn cluster_options_alone<'a>() -> &'a str {
+    "--engine, --patience, --user and --password-file are options of etcd:NAME"
+}
+
 pub fn serve_lines<'a>() -> &'a str {
     "\
 The shortest start, of a server that keeps its state in FILE, with 8 workers, a lock `bank` of 1 cell, and the
@@ -354,6 +390,23 @@ without its newline is cut off at the start. A line that is none or is refused e
 state` and its number, and leaves FILE as it was. So does each start that is refused. A server whose FILE is
 removed, renamed or replaced ends with status 4 within a second or two.
 
+With --state etcd:NAME it keeps what it did in a log of an etcd cluster, so that the state outlives the machine. NAME
+has 1 to 64 of a-z 0-9 _ -. Servers on several machines are started with the same words, but for --name, which says
+where clients reach each:
+
+  rme serve --state etcd:bank --engine 10.0.0.1:2379,10.0.0.2:2379,10.0.0.3:2379 --name db1:7000 bank
+
+One of them leads: it listens, and prints `listening PORT`. Each other prints `standby behind ADDRESS`, the --name of
+the leader, and takes over when that was quiet for --quiet seconds, or at once with --take. Clients have the addresses
+of all, and go on to the next.
+
+  - each answer waits until most nodes have what was done; --sync is refused
+  - a leader that another one took over from answers nothing more, and ends with status 4
+  - where no node answers, orders wait; after --patience the server ends, with status 4
+  - `rme look etcd:NAME` prints the state and who leads; `rme move` makes the log of a FILE, and a FILE of the log
+  - the log is in the keys that begin with rme/NAME/. --user and --password-file are for a cluster that asks who it
+    is. Connections to it are not encrypted: a tunnel on this machine can do that, of which --engine is the address
+
 With --spaces DIR it serves spaces, as many as there are users. Each is a state of its own in DIR/NAME.state, a FILE
 as above, with workers and locks of its own. NAME has 1 to 64 of a-z 0-9 _ -. A session begins in no space, and is
 refused, 23, what needs one. Its further lines:
@@ -379,12 +432,13 @@ Status: 0 after the closing lines, 1 with none of them where a worker was not gi
 are refused (also 0 or more than 256 workers, 16 locks, 16 cells or 1000000 jobs, and a name that is none
 or stands twice; a socket that is listened on, and another file in its place; a FILE or DIR that another
 server has, and a FILE that is no state, or that the words contradict), 3 where FILE or DIR can't be read, 4 where
-writing failed, FILE included, 5 where memory ran out, 6 where it can't listen on the port or the socket. After
-the closing lines it is 5, 6 or 7 where a connection found no memory, could not be accepted or had no thread."
+writing failed, FILE included, 5 where memory ran out, 6 where it can't listen on the port or the socket, and where no
+node of the cluster answers at its start. After the closing lines it is 5, 6 or 7 where a connection found no memory,
+could not be accepted or had no thread."
 }
 
 pub fn look_about<'a>() -> &'a str {
-    "Looks at the file of a state, or of words that processes map, whether somebody has it or not"
+    "Looks at the file of a state, at its log in a cluster, or at words that processes map"
 }
 
 pub fn look_lines<'a>() -> &'a str {
@@ -408,8 +462,21 @@ down, is ready and holds nothing is left out without --all. A line at the end fo
 holds something says whom it keeps waiting, and how to go on. --json prints it all as the answer to the order
 `status`. An end that was never known to be with the disk, which a server cuts off, is left out.
 
+Whether a server has the file makes no difference. --lines prints the bytes of the state's file, without such an end:
+a copy that a server can start from, also while another one has the file.
+
 --check prints yes; or `yes, up to line L: N bytes behind it were never known to be with the disk`; or `no L` for
 the first line that a server would not accept, or at which a write ends that was with the disk and has changed.
+
+Of etcd:NAME it prints the same, of the log of that name in the cluster of --engine, and before the tables who leads:
+
+  leader db1:7000 term 7 seq 41 changed 0.4 s ago
+
+with the --name of the server that claimed the log last, how many claims there were, how many records the log's epoch
+has, and how long ago, at most, that server changed something, which it does each second. It is `quiet` where nothing
+changed in 1.5 seconds: no server leads, or it does not reach the cluster. --lines makes a copy of the log:
+
+  rme look etcd:bank --engine 10.0.0.1:2379 --lines >bank.state
 
 Of a file that `rme_create` made for processes it prints the same tables, with the process of each worker in
 place of the session (`living` where another user has it, `dead` for a worker with a job and no process), and
@@ -417,8 +484,48 @@ first `moved` or `old boot` where nobody may go on with it. --check prints yes, 
 those of no world: of words alone, since the file has no history. Where processes step meanwhile, they are of no
 one moment.
 
-Status: 0, 1 after no, 2 for words that are refused and for a file that nobody would accept, 3 where
-reading failed, 4 where writing failed, 5 where memory ran out."
+Status: 0, 1 after no, 2 for words that are refused, for a file that nobody would accept, and where there is no such
+log or the cluster refuses the user, 3 where reading failed, 4 where writing failed, 5 where memory ran out, 6 where no
+node of the cluster answers."
+}
+
+pub fn move_about<'a>() -> &'a str {
+    "Moves a state from a file to a log in an etcd cluster, or back, while no server has it"
+}
+
+pub fn move_words_wanted<'a>() -> &'a str {
+    "of FROM and TO one is a FILE, and the other is etcd:NAME"
+}
+
+pub fn move_lines<'a>() -> &'a str {
+    "\
+A server with a file that becomes one of several servers over a log in a cluster:
+
+  systemctl stop rme
+  rme move bank.state etcd:bank --engine 10.0.0.1:2379,10.0.0.2:2379,10.0.0.3:2379
+  rme serve --state etcd:bank --engine 10.0.0.1:2379,10.0.0.2:2379,10.0.0.3:2379 --name db1:7000
+
+The move says what it did:
+
+  moved bank.state to etcd:bank: epoch 3, 5120 bytes
+
+It is all of the state: cells, receipts, and what each worker is at. Clients go on with their numbers. The way back, when
+all servers of the log have ended, those that stand by too:
+
+  rme move etcd:bank bank.state --engine 10.0.0.1:2379,10.0.0.2:2379,10.0.0.3:2379
+
+FROM stays as it is. Put it away: where servers go on from both, there are two states, and each counts its own jobs.
+
+A FILE that a server has is refused, and so is one that is no state, a log that has changed within 3 seconds, since a
+server leads it, and a TO that is there already, which stays as it is.
+
+A log has the state at one moment, and before it nothing that a server starts from; a FILE has its name once the disk has
+all of it. A move to a log that was interrupted is finished by the same move again; where that is refused, since the log
+is there, it was made all the same, and `rme look` shows it.
+
+Status: 0 after the move, 2 for words and states that are refused, and where there is no such log or the cluster refuses
+the user, 3 where reading failed, 4 where writing failed or the cluster has no room, 5 where memory ran out, 6 where no
+node of the cluster answers."
 }
 
 pub fn ask_about<'a>() -> &'a str {

@@ -1,12 +1,15 @@
 //! Parsing the words of the command line into a task.
 
 use crate::ask_words::ask_task;
+use crate::cluster_words::{
+    has_cluster_option, has_leader_option, leader_setting, log_name, log_place, move_task, wrong,
+};
 use crate::commands::command;
 use crate::help_texts;
 use crate::tasks::{
     CliTask, Diagnostics, DrawTask, DurableServeTask, LineTask, ListenAddresses, LookTask,
-    OutputFormat, RunImages, ServeTask, ServerLog, SpacesServeTask, SyncPolicy, ThreadsTask,
-    WaitingPolicy,
+    OutputFormat, ReplicatedServeTask, RunImages, ServeTask, ServerLog, SpacesServeTask,
+    SyncPolicy, ThreadsTask, WaitingPolicy,
 };
 use clap::error::ErrorKind;
 use clap::{ArgMatches, Error};
@@ -37,6 +40,9 @@ pub fn task_of(alloc: Global, words: &[String]) -> Result<CliTask, Error> {
     }
     if let Some(ask) = found.subcommand_matches("ask") {
         return Ok(CliTask::Ask(ask_task(alloc, ask)?));
+    }
+    if let Some(moved) = found.subcommand_matches("move") {
+        return Ok(CliTask::Move(move_task(alloc, moved)?));
     }
     if let Some(draw) = found.subcommand_matches("draw") {
         return Ok(CliTask::Draw(draw_task(alloc, draw)?));
@@ -70,18 +76,26 @@ fn service_task(alloc: Global, found: &ArgMatches<'_>) -> Result<Option<CliTask>
     Ok(Some(any_serve_task(alloc, serve)?))
 }
 
-/// The task of the words after `serve`: for a folder of spaces, for a state, or for neither.
+/// The task of the words after `serve`: for a folder of spaces, for a state in a cluster or in a file, or for neither.
 fn any_serve_task(alloc: Global, found: &ArgMatches<'_>) -> Result<CliTask, Error> {
     if let Some(mistake) = misplaced_option(found) {
-        return Err(command(alloc)?.error(ErrorKind::ArgumentConflict, mistake)?);
+        return Err(wrong(alloc, mistake)?);
     }
     if let Some(folder) = text_of(alloc, found, "spaces")? {
         return Ok(CliTask::ServeSpaces(spaces_serve_task(alloc, found, folder)?));
     }
-    match text_of(alloc, found, "state")? {
-        None => Ok(CliTask::Serve(serve_task(alloc, found)?)),
-        Some(state) => Ok(CliTask::ServeDurable(durable_serve_task(alloc, found, state)?)),
-    }
+    let Some(state) = text_of(alloc, found, "state")? else {
+        return Ok(CliTask::Serve(serve_task(alloc, found)?));
+    };
+    let Some(name) = log_name(state.as_str()) else {
+        return Ok(CliTask::ServeDurable(durable_serve_task(alloc, found, state)?));
+    };
+    let (log, leader) = (
+        log_place(alloc, found, name)?,
+        leader_setting(alloc, found)?,
+    );
+    let serve = durable_serve_task(alloc, found, state)?;
+    Ok(CliTask::ServeReplicated(ReplicatedServeTask { serve, log, leader }))
 }
 
 /// What is wrong if the words after `serve` have an option that goes only with one that they do not have.
@@ -89,6 +103,21 @@ fn misplaced_option<'a>(found: &ArgMatches<'_>) -> Option<&'a str> {
     let has_spaces = found.contains_id("spaces");
     if found.contains_id("close-after") && !has_spaces {
         return Some(help_texts::spaces_option_alone());
+    }
+    if found
+        .get_str("spaces")
+        .is_some_and(|folder| log_name(folder).is_some())
+    {
+        return Some(help_texts::folder_wanted());
+    }
+    let is_log = found
+        .get_str("state")
+        .is_some_and(|state| log_name(state).is_some());
+    if is_log && found.contains_id("sync") {
+        return Some(help_texts::sync_with_files());
+    }
+    if !is_log && (has_cluster_option(found) || has_leader_option(found)) {
+        return Some(help_texts::leader_options_alone());
     }
     let keeps = has_spaces || found.contains_id("state");
     let of_states = ["sync", "waiting", "sections"];
@@ -116,18 +145,32 @@ fn draw_task(alloc: Global, found: &ArgMatches<'_>) -> Result<DrawTask, Error> {
 }
 
 /// The task of the words after `look`.
-fn look_task(alloc: Global, found: &ArgMatches<'_>) -> Result<LookTask, AllocError> {
-    let form = if found.get_flag("check") {
+fn look_task(alloc: Global, found: &ArgMatches<'_>) -> Result<LookTask, Error> {
+    let form = look_form(found);
+    let state = text_of(alloc, found, "FILE")?.unwrap_or(String::new(alloc));
+    let log = match log_name(state.as_str()) {
+        Some(name) => Some(log_place(alloc, found, name)?),
+        None if has_cluster_option(found) => {
+            return Err(wrong(alloc, help_texts::cluster_options_alone())?);
+        }
+        None => None,
+    };
+    Ok(LookTask { state, log, form })
+}
+
+/// The requested output of `look`.
+fn look_form(found: &ArgMatches<'_>) -> OutputFormat {
+    if found.get_flag("check") {
         OutputFormat::Check
+    } else if found.get_flag("lines") {
+        OutputFormat::Lines
     } else if found.get_flag("json") {
         OutputFormat::Json
     } else if found.get_flag("all") {
         OutputFormat::AllTables
     } else {
         OutputFormat::Tables
-    };
-    let state = text_of(alloc, found, "FILE")?.unwrap_or(String::new(alloc));
-    Ok(LookTask { state, form })
+    }
 }
 
 /// The task of words that request something over lines, or an explanation.

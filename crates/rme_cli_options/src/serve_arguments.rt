@@ -64,7 +64,7 @@ pub(crate) fn files<'a>() -> [ArgumentSpec<'a>; 3] {
         text_option(
             "state",
             "FILE",
-            "Keeps what it did in this file before it answers, and goes on from there",
+            "Keeps what it did in this file before it answers, and goes on from there; or in etcd:NAME",
         ),
         ArgumentSpec {
             conflicts: &["state", "workers", "cells", "jobs", "connections", "LOCK"],

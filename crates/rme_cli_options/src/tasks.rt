@@ -13,10 +13,14 @@ pub enum CliTask {
     Serve(ServeTask),
     /// Serve workers of a world that is logged to a file.
     ServeDurable(DurableServeTask),
+    /// Serve workers of a world that is logged to an etcd cluster, or stand by for the server that does.
+    ServeReplicated(ReplicatedServeTask),
     /// Serve the spaces of a folder, each of which is a state of its own.
     ServeSpaces(SpacesServeTask),
-    /// Look at a file of a durable world.
+    /// Look at a file of a durable world, or at its log in a cluster.
     Look(LookTask),
+    /// Move a state from a file to a log in a cluster, or back.
+    Move(MoveTask),
     /// Ask a server.
     Ask(AskTask),
 }
@@ -134,6 +138,47 @@ pub enum WaitingPolicy {
     Withdraw,
 }
 
+/// A log in an etcd cluster.
+#[derive(Drop)]
+pub struct EtcdPlace {
+    /// The name of the log: NAME of `etcd:NAME`.
+    pub name: String,
+    /// The nodes of the cluster, each as HOST:PORT, as they were given; at least one.
+    pub engines: Vec<String>,
+    /// The user of the cluster, if it asks for one.
+    pub login: Option<EtcdLogin>,
+    /// The number of seconds that a call may wait for the cluster, at least 1.
+    pub patience: u32,
+}
+
+/// A user of an etcd cluster.
+#[derive(Drop)]
+pub struct EtcdLogin {
+    pub user: String,
+    /// The file whose first line is the password.
+    pub password_file: String,
+}
+
+/// How a server takes the lead of a log that another one may have.
+#[derive(Drop)]
+pub struct LeaderSetting {
+    /// Where clients reach it, which it tells others.
+    pub address: String,
+    /// The number of seconds for which the leader must be quiet before this server takes over, at least 1.
+    pub quiet: u32,
+    /// Whether it takes over at once.
+    pub takes: bool,
+}
+
+/// The request of `rme serve --state etcd:NAME`.
+#[derive(Drop)]
+pub struct ReplicatedServeTask {
+    /// The service; its `state` is the text `etcd:NAME`.
+    pub serve: DurableServeTask,
+    pub log: EtcdPlace,
+    pub leader: LeaderSetting,
+}
+
 /// The request of `rme serve --state`. A size that is not given is that of the state, or the default.
 #[derive(Drop)]
 pub struct DurableServeTask {
@@ -188,9 +233,27 @@ pub struct SpacesServeTask {
 /// The request of `rme look`.
 #[derive(Drop)]
 pub struct LookTask {
-    /// The file of the state.
+    /// The file of the state, or the text `etcd:NAME`.
     pub state: String,
+    /// The log in a cluster, if `state` names one.
+    pub log: Option<EtcdPlace>,
     pub form: OutputFormat,
+}
+
+/// The request of `rme move`.
+#[derive(Drop)]
+pub struct MoveTask {
+    pub direction: MoveDirection,
+    /// The file of the state.
+    pub file: String,
+    pub log: EtcdPlace,
+}
+
+/// The direction of a move.
+#[derive(Clone, Copy, PartialEq, Eq)]
+pub enum MoveDirection {
+    FileToLog,
+    LogToFile,
 }
 
 /// The output of `rme look`.
@@ -204,6 +267,8 @@ pub enum OutputFormat {
     Json,
     /// Whether all of it can be read.
     Check,
+    /// The bytes of its state file.
+    Lines,
 }
 
 /// The request of `rme ask`.

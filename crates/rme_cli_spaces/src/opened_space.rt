@@ -27,7 +27,7 @@ pub(crate) type SpaceLog<'a> = ServedLog<'a>;
 /// The opened state of a space, with its log.
 #[derive(Drop)]
 pub(crate) struct OpenedSpace<'a> {
-    pub(crate) state: StateAndLog<'a>,
+    pub(crate) state: StateAndLog<SpaceLog<'a>>,
     ghost lines: { state.executor.lines ≡ [] },
 }
 

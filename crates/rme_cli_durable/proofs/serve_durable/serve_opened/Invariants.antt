@@ -1,6 +1,6 @@
 use Rattle.std.proofs.Common.{◌≡◌}
 use Rattle.rme_durable_server.specs.ServerHistories.{ServerState, server_state}
-use Rattle.rme_cli_durable.proofs.serve_durable.run_serve_durable.Given as goal
+use Rattle.rme_cli_durable.proofs.serve_durable.serve_opened.Given as goal
 
 -- The log that was just opened, and the state with which the server begins.
 abbrev pub ghosts-serve_logged-J-LogTag : goal.ghosts-serve_logged-J-LogTag

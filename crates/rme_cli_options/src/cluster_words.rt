@@ -1,0 +1,144 @@
+//! Parsing a log in a cluster: the word `etcd:NAME`, and the options beside it.
+
+use crate::commands::command;
+use crate::help_texts;
+use crate::parsing::{text_of, texts_of};
+use crate::tasks::{EtcdLogin, EtcdPlace, LeaderSetting, MoveDirection, MoveTask};
+use clap::error::ErrorKind;
+use clap::{ArgMatches, Error};
+use std::alloc::{AllocError, Global};
+
+/// What the word for a log begins with.
+const LOG_MARK: &str = "etcd:";
+
+/// The length of the longest name of a log, in bytes.
+const MOST_LOG_NAME: usize = 64;
+
+/// The length of the longest address of a server, in bytes.
+const MOST_ADDRESS: usize = 255;
+
+/// The default number of seconds that a call may wait for the cluster.
+const PATIENCE: u32 = 10;
+
+/// The default number of seconds for which a leader must be quiet.
+const QUIET: u32 = 3;
+
+/// The name of the log that a word is for; `None` for a file.
+pub(crate) fn log_name(word: &str) -> Option<&str> {
+    word.strip_prefix(LOG_MARK)
+}
+
+/// Whether an option of the cluster was given.
+pub(crate) fn has_cluster_option(found: &ArgMatches<'_>) -> bool {
+    ["engine", "patience", "user", "password-file"]
+        .iter()
+        .any(|option| found.contains_id(option))
+}
+
+/// Whether an option was given that says how a server takes the lead.
+pub(crate) fn has_leader_option(found: &ArgMatches<'_>) -> bool {
+    found.get_flag("take") || found.contains_id("name") || found.contains_id("quiet")
+}
+
+/// The log of this name, in the cluster of the options.
+pub(crate) fn log_place(
+    alloc: Global,
+    found: &ArgMatches<'_>,
+    name: &str,
+) -> Result<EtcdPlace, Error> {
+    if !is_log_name(name) {
+        return Err(wrong(alloc, help_texts::log_name_wanted())?);
+    }
+    let engines = texts_of(alloc, found, "engine")?;
+    if engines.is_empty() {
+        return Err(wrong(alloc, help_texts::engine_wanted())?);
+    }
+    if !engines.iter().all(|node| is_node(node.as_str())) {
+        return Err(wrong(alloc, help_texts::node_wanted())?);
+    }
+    Ok(EtcdPlace {
+        name: name.to_string(alloc)?,
+        engines,
+        login: login_of(alloc, found)?,
+        patience: found.get_one("patience").unwrap_or(PATIENCE),
+    })
+}
+
+/// The user of the cluster, if one was given. Each of the two options requires the other.
+fn login_of(alloc: Global, found: &ArgMatches<'_>) -> Result<Option<EtcdLogin>, AllocError> {
+    let (Some(user), Some(password_file)) = (
+        text_of(alloc, found, "user")?,
+        text_of(alloc, found, "password-file")?,
+    ) else {
+        return Ok(None);
+    };
+    Ok(Some(EtcdLogin {
+        user,
+        password_file,
+    }))
+}
+
+/// How a server takes the lead of its log.
+pub(crate) fn leader_setting(
+    alloc: Global,
+    found: &ArgMatches<'_>,
+) -> Result<LeaderSetting, Error> {
+    let Some(address) = text_of(alloc, found, "name")? else {
+        return Err(wrong(alloc, help_texts::address_wanted())?);
+    };
+    if !is_address(address.as_str()) {
+        return Err(wrong(alloc, help_texts::other_address_wanted())?);
+    }
+    Ok(LeaderSetting {
+        address,
+        quiet: found.get_one("quiet").unwrap_or(QUIET),
+        takes: found.get_flag("take"),
+    })
+}
+
+/// The task of the words after `move`.
+pub(crate) fn move_task(alloc: Global, found: &ArgMatches<'_>) -> Result<MoveTask, Error> {
+    let from = found.get_str("FROM").unwrap_or("");
+    let to = found.get_str("TO").unwrap_or("");
+    let (direction, file, name) = match (log_name(from), log_name(to)) {
+        (None, Some(name)) => (MoveDirection::FileToLog, from, name),
+        (Some(name), None) => (MoveDirection::LogToFile, to, name),
+        _ => return Err(wrong(alloc, help_texts::move_words_wanted())?),
+    };
+    Ok(MoveTask {
+        direction,
+        file: file.to_string(alloc)?,
+        log: log_place(alloc, found, name)?,
+    })
+}
+
+/// Whether a log can have this name.
+fn is_log_name(name: &str) -> bool {
+    let is_short = !name.is_empty() && name.len() <= MOST_LOG_NAME;
+    is_short
+        && name.bytes().all(|byte| byte.is_ascii_lowercase()
+            || byte.is_ascii_digit()
+            || matches!(byte, b'_' | b'-'))
+}
+
+/// Whether a word is the address of a node: HOST:PORT.
+fn is_node(word: &str) -> bool {
+    let Some((host, port)) = word.rsplit_once(':') else {
+        return false;
+    };
+    let is_host = !host.is_empty()
+        && host.bytes().all(|byte| byte.is_ascii_alphanumeric()
+            || matches!(byte, b'.' | b'-' | b'_' | b':' | b'[' | b']'));
+    is_host && port.parse::<u16>().is_ok_and(|port| port > 0)
+}
+
+/// Whether a server can tell others this address.
+fn is_address(word: &str) -> bool {
+    let is_short = !word.is_empty() && word.len() <= MOST_ADDRESS;
+    is_short && word.bytes().all(|byte| byte.is_ascii_graphic())
+}
+
+/// The error of words that do not go together.
+pub(crate) fn wrong(alloc: Global, text: &str) -> Result<Error, Error> {
+    Ok(command(alloc)?.error(ErrorKind::ArgumentConflict, text)?)
+}

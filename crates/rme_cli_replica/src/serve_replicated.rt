@@ -1,0 +1,266 @@
+//! `rme serve --state etcd:NAME`: a server stands by, claims the log, and serves.
+
+ghost use Rattle.std.specs.Prelude.{◌≡◌, []};
+
+use crate::cluster_log::{ClusterLog, state_and_cluster_log};
+use crate::lead_note::{LeadNote, LeadOutcome};
+use crate::lead_watch::LeadWatch;
+use crate::noted_engine::NotedEngine;
+use crate::standby::Standby;
+use rme_cli_cluster::{
+    ClusterFault, LogFault, asking_limits, end_of_command, new_writer, open_cluster, storing_limits,
+};
+use rme_cli_durable::{
+    Growth, ServerConfig, StateAndLog, StateSite, growth_of, limits_of, open_grown, serve_logged,
+    setting_of, split_task,
+};
+use rme_cli_http::HttpPort;
+use rme_cli_keys::open_keys;
+use rme_cli_listen::listen;
+use rme_cli_messages::CliFault;
+use rme_cli_options::{EtcdPlace, LeaderSetting, ListenAddresses, ReplicatedServeTask, ServerLog};
+use rme_durable_file::{RecoveredFile, StateFile, StateName};
+use rme_durable_server::ServerSetting;
+use rme_etcd::EtcdFault;
+use rme_metrics::LogCounters;
+use rme_replica::Claimant;
+use rme_replica_state::{ReadFault, ReplicaState};
+use rme_session_server::{Listener, ServerLimits};
+use std::alloc::{AllocError, Global};
+use std::marker::Brand;
+use std::sync::Wait;
+use std::thread::Threads;
+use std::time::Clock;
+
+/// Serves a state in a log in a cluster, once no other server leads it, until the process is killed. Creates the log
+/// first if there is none. Returns if it cannot start, and if an event cannot be logged, as when another server has taken
+/// over, which was already reported.
+pub fn run_serve_replicated<R: Threads + Wait + Clock + Sync>(
+    rt: &HostRuntime,
+    threads: &R,
+    task: ReplicatedServeTask,
+) -> Result<u8, CliFault> {
+    let ReplicatedServeTask { serve, log, leader } = task;
+    let limits = limits_of(&serve);
+    let setting = setting_of(&serve);
+    let (server_log, http) = (serve.log, serve.http);
+    let (asked, places, keys) = split_task(serve);
+    let request = LeadRequest {
+        rt,
+        place: &log,
+        leader: &leader,
+        asked: &asked,
+        places: &places,
+        keys: &keys,
+        http,
+        limits,
+        setting,
+        log: server_log,
+    };
+    end_of_command(rt, request.serve(threads))
+}
+
+/// What a server is asked for.
+#[derive(Drop)]
+struct LeadRequest<'a> {
+    rt: &'a HostRuntime,
+    place: &'a EtcdPlace,
+    leader: &'a LeaderSetting,
+    asked: &'a ServerConfig,
+    places: &'a ListenAddresses,
+    /// The file of its keys, if its sessions need one.
+    keys: &'a Option<String>,
+    http: Option<u16>,
+    limits: ServerLimits,
+    setting: ServerSetting,
+    log: ServerLog,
+}
+
+/// What a server that leads notes, beside the state: its name, what the log answered, and the counts of its writes.
+#[derive(Clone, Copy)]
+struct LeadNotes<'f> {
+    name: &'f StateName,
+    note: &'f LeadNote,
+    writes: &'f LogCounters,
+}
+
+/// The state in a log, as it was read: nothing was changed yet.
+type FoundState<'a> = RecoveredFile<'a, ReplicaState<NotedEngine<'a>>>;
+
+impl LeadRequest<'_> {
+    /// Stands by until it leads, and serves.
+    fn serve<R: Threads + Wait + Clock + Sync>(&self, threads: &R) -> Result<u8, ClusterFault> {
+        let mut standby = Standby {
+            rt: self.rt,
+            place: self.place,
+            leader: self.leader,
+            asked: self.asked,
+            engine: open_cluster(self.rt, self.place, asking_limits(self.place))?,
+            takes: self.leader.takes,
+        };
+        standby.ensure_log()?;
+        self.check()?;
+        for _ in 0..u64::MAX {
+            standby.wait()?;
+            if let Some(status) = self.try_lead(threads)? {
+                return Ok(status);
+            }
+        }
+        Ok(0)
+    }
+
+    /// Refuses words that contradict the state, before its leader is waited for.
+    fn check(&self) -> Result<(), ClusterFault> {
+        let note = LeadNote::new();
+        let name = self.state_name()?;
+        self.find_state(&name, &note)?;
+        Ok(())
+    }
+
+    /// Claims the log, and serves until an event cannot be logged; `None` if another server was faster.
+    fn try_lead<R: Threads + Wait + Clock + Sync>(
+        &self,
+        threads: &R,
+    ) -> Result<Option<u8>, ClusterFault> {
+        let note = LeadNote::new();
+        let name = self.state_name()?;
+        let writes = LogCounters::new();
+        let notes = LeadNotes {
+            name: &name,
+            note: &note,
+            writes: &writes,
+        };
+        self.lead(threads, notes)
+    }
+
+    /// The same, with what outlives the state.
+    fn lead<'f, R: Threads + Wait + Clock + Sync>(
+        &'f self,
+        threads: &R,
+        notes: LeadNotes<'f>,
+    ) -> Result<Option<u8>, ClusterFault> {
+        let alloc = self.rt.alloc();
+        let keys = match open_keys(self.rt, copy_of(alloc, self.keys)?) {
+            Ok(keys) => keys,
+            Err(refused) => return Ok(Some(refused.status())),
+        };
+        let (found, growth) = self.find_state(notes.name, notes.note)?;
+        let http = HttpPort::listen(self.rt, self.http)?;
+        let places = copy_of_places(alloc, self.places)?;
+        let (listeners, bound) = listen(self.rt, places, self.limits)?;
+        let counters = match &http {
+            Some(_) => Some(notes.writes),
+            None => None,
+        };
+        let watch = LeadWatch {
+            place: self.place,
+            note: notes.note,
+        };
+        let site = StateSite {
+            rt: self.rt,
+            bound,
+            http,
+            log: self.log,
+            keys,
+            watch: &watch,
+            setting: self.setting,
+            writes: notes.writes,
+        };
+        let served = match open_grown(self.rt, found, growth) {
+            Ok(opened) => {
+                let state = state_and_cluster_log(self.rt, counters, opened);
+                serve_claimed(threads, &site, listeners, state)
+            }
+            Err(fault) => self.not_claimed(fault, notes.note),
+        };
+        site.bound.addresses.clear(self.rt);
+        served
+    }
+
+    /// What it means that the log was not claimed: `None` if another server was faster.
+    fn not_claimed(&self, fault: CliFault, note: &LeadNote) -> Result<Option<u8>, ClusterFault> {
+        match note.last() {
+            LeadOutcome::Overtaken => Ok(None),
+            LeadOutcome::Lost(why) => Err(self.call_fault(why)),
+            LeadOutcome::Own => Err(ClusterFault::Cli(fault)),
+        }
+    }
+
+    /// The state in the log, and what the request adds to it.
+    fn find_state<'f>(
+        &self,
+        name: &'f StateName,
+        note: &'f LeadNote,
+    ) -> Result<(FoundState<'f>, Option<Growth>), ClusterFault> {
+        let alloc = self.rt.alloc();
+        let engine = NotedEngine {
+            engine: open_cluster(self.rt, self.place, storing_limits(self.place))?,
+            note,
+        };
+        let by = Claimant {
+            address: String::from_str(alloc, self.leader.address.as_str())?,
+            writer: new_writer(self.rt)?,
+        };
+        let state = match ReplicaState::read(alloc, engine, by) {
+            Ok(state) => state,
+            Err(ReadFault::NoMemory) => return Err(ClusterFault::Cli(CliFault::NoMemory)),
+            Err(ReadFault::Lost) => return Err(self.read_fault(note)),
+        };
+        let found = RecoveredFile::read(self.rt, StateFile::new(name, state, true))?;
+        let growth = growth_of(self.rt, self.asked, found.log())?;
+        Ok((found, growth))
+    }
+
+    /// The fault of a log that could not be read.
+    fn read_fault(&self, note: &LeadNote) -> ClusterFault {
+        match note.last() {
+            LeadOutcome::Lost(why) => self.call_fault(why),
+            _ => self.call_fault(EtcdFault::Unreachable),
+        }
+    }
+
+    /// The fault of a call of the log.
+    fn call_fault(&self, why: EtcdFault) -> ClusterFault {
+        ClusterFault::of_log(self.rt.alloc(), self.place, LogFault::Call(why))
+    }
+
+    /// The name of the state, as faults have it: `etcd:NAME`.
+    fn state_name(&self) -> Result<StateName, ClusterFault> {
+        let path = String::from_str(self.rt.alloc(), self.asked.path.as_str())?;
+        Ok(StateName::new(path))
+    }
+}
+
+/// Serves a state whose log was claimed.
+fn serve_claimed<R: Threads + Wait + Clock + Sync>(
+    threads: &R,
+    site: &StateSite<'_, LeadWatch<'_>>,
+    listeners: (Listener, Option<Listener>),
+    state: StateAndLog<ClusterLog<'_>>,
+) -> Result<Option<u8>, ClusterFault>
+    requires lines { state.executor.lines ≡ [] }
+{
+    let status = serve_logged::<ClusterLog<'_>, Brand, LeadWatch<'_>, R>(
+        threads, site, listeners, state,
+    )?;
+    Ok(Some(status))
+}
+
+fn copy_of(alloc: Global, text: &Option<String>) -> Result<Option<String>, AllocError> {
+    match text {
+        Some(text) => Ok(Some(String::from_str(alloc, text.as_str())?)),
+        None => Ok(None),
+    }
+}
+
+fn copy_of_places(alloc: Global, places: &ListenAddresses) -> Result<ListenAddresses, AllocError> {
+    Ok(match places {
+        ListenAddresses::Port(port) => ListenAddresses::Port(*port),
+        ListenAddresses::Socket(path) => {
+            ListenAddresses::Socket(String::from_str(alloc, path.as_str())?)
+        }
+        ListenAddresses::Both(port, path) => {
+            ListenAddresses::Both(*port, String::from_str(alloc, path.as_str())?)
+        }
+    })
+}
