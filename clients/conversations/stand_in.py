@@ -4,7 +4,7 @@
 It prints one line, a JSON object with the ports of each conversation by its name: `{"a job":[4711],..}`, one for each
 address. Each conversation is played once. For a line `NAME` on the standard input it prints `ok` if all of that
 conversation was played, or else what was not played, or what came in its place. It ends with the standard input.
-docs/protocol.md says what FILE has.
+The README beside it says what FILE has.
 """
 
 import json

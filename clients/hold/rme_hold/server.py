@@ -6,7 +6,7 @@ import json
 import select
 import socket
 import time
-from typing import Any, Dict, List, Optional
+from typing import Any, Dict, List, Optional, Union
 
 from .command import Guard
 from .endings import LATER, NO_SERVER, NOT_ALLOWED, SOFTWARE, WRONG_WORDS, Ended
@@ -46,11 +46,11 @@ class NoSpace(Ended):
 class Session:
     """A connection to the server, and the lines on it."""
 
-    def __init__(self, words: Words, limit: float = AN_ANSWER_TAKES):
-        self.connection = socket.socket(socket.AF_UNIX if words.socket is not None else socket.AF_INET)
+    def __init__(self, server: Union[int, str], limit: float):
+        self.connection = socket.socket(socket.AF_UNIX if isinstance(server, str) else socket.AF_INET)
         try:
             self.connection.settimeout(limit)
-            self.connection.connect(words.socket if words.socket is not None else ("127.0.0.1", words.port))
+            self.connection.connect(server if isinstance(server, str) else ("127.0.0.1", server))
         except BaseException:
             self.connection.close()
             raise
@@ -82,9 +82,9 @@ class Session:
         told.register(self.connection, select.POLLIN | select.POLLHUP | select.POLLERR | select.POLLRDHUP)
         return not told.poll(0)
 
-    def lasts(self) -> None:
-        """From now on the wait for an answer is as usual."""
-        self.connection.settimeout(AN_ANSWER_TAKES)
+    def waits(self, seconds: float) -> None:
+        """From now on an answer may take so long."""
+        self.connection.settimeout(seconds)
 
     def end(self) -> None:
         """Ends the connection, even if other processes have its descriptor."""
@@ -127,6 +127,7 @@ class ServerWorker:
 
     def __init__(self, words: Words):
         self._words = words
+        self._at = 0  # which of the servers is tried next
         self._key_file = None if words.key_file is None else KeyFile(words.key_file)
         self._session: Optional[Session] = None
         self._worker, self._number, self._stance = 0, 0, ""
@@ -232,18 +233,38 @@ class ServerWorker:
 
     def _begun(self, limit: float) -> Session:
         """A session, which begins with the secret if there is one, and uses the space if one is named. `Full` if the
-        server has no room for it."""
-        secret, space = None if self._key_file is None else self._key_file.secret(), self._words.space
-        session = Session(self._words, limit)
+        server has no room for it. If no session begins, the next server is tried next."""
+        servers = self._words.servers
+        share = limit if len(servers) == 1 else max(0.5, min(limit, FOR_A_SERVER) / len(servers))
+        secret = None if self._key_file is None else self._key_file.secret()
         try:
-            if secret is not None:
-                may_begin(session.ask(do="hello", secret=secret))
-            if space is not None:
-                may_begin(session.ask(do="use", space=space))
+            session = Session(servers[self._at], share)
+        except OSError:
+            self._go_on()
+            raise
+        try:
+            self._greet(session, secret)
+            session.waits(limit)
         except BaseException:
+            self._go_on()
             session.close()
             raise
         return session
+
+    def _greet(self, session: Session, secret: Optional[str]) -> None:
+        """The first orders of a session. One of several servers may take a connection and answer nothing, if it was
+        stopped: so it has to answer once."""
+        space = self._words.space
+        if secret is not None:
+            may_begin(session.ask(do="hello", secret=secret))
+        if space is not None:
+            may_begin(session.ask(do="use", space=space))
+        if secret is None and space is None and len(self._words.servers) > 1:
+            may_begin(session.ask(do="ping"))
+
+    def _go_on(self) -> None:
+        """The next try is at the next server."""
+        self._at = (self._at + 1) % len(self._words.servers)
 
     # A job
 
@@ -346,7 +367,7 @@ class ServerWorker:
             self._end_session()
             return False
         self._found(answer)
-        self._session.lasts()
+        self._session.waits(AN_ANSWER_TAKES)
         return True
 
     def _found(self, answer: Answer) -> None:

@@ -6,11 +6,11 @@ import argparse
 import json
 import sys
 from dataclasses import dataclass
-from typing import Any, List, NoReturn, Optional, Sequence
+from typing import Any, List, NoReturn, Optional, Sequence, Union
 
 from .endings import WRONG_WORDS
 
-USAGE = "rme-hold (--port P | --socket PATH | --file FILE) (--worker N | --any) [OPTION..] LOCK -- COMMAND [ARG..]"
+USAGE = "rme-hold (--port P[,P..] | --socket PATH | --file FILE) (--worker N | --any) [OPTION..] LOCK -- COMMAND [ARG..]"
 ABOUT = """\
 Runs COMMAND while a worker of rme is inside LOCK, and no other worker is. When COMMAND ends with 0, the job counts, once,
 and the lock is left. If COMMAND fails, or is killed, or this machine is, the lock stays with the worker, and the next
@@ -32,16 +32,17 @@ worker or this space), 127 no such command.
 Examples:
   rme-hold --port 7000 --worker 0 bank -- ./transfer 5
   rme-hold --port 7000 --space tenant-7 --any bank -- ./transfer 5
+  rme-hold --port 7000,7001,7002 --worker 0 bank -- ./transfer 5
   rme-hold --file /dev/shm/locks --any -n nightly -- ./backup
 """
 
 
 @dataclass(frozen=True)
 class Words:
-    """What the command line asks for. `wait` is in seconds, `None` for no limit; `worker` is `None` for any."""
+    """What the command line asks for. `servers` are the ports and the paths of sockets that are tried in turn; `wait` is
+    in seconds, `None` for no limit; `worker` is `None` for any."""
 
-    port: Optional[int]
-    socket: Optional[str]
+    servers: List[Union[int, str]]
     file: Optional[str]
     worker: Optional[int]
     wait: Optional[float]
@@ -77,6 +78,13 @@ def number(most: int) -> Any:
     return whole
 
 
+def ports(text: str) -> List[int]:
+    return [number(65535)(port) for port in text.split(",")]
+
+
+ports.__name__ = "ports up to 65535, with commas between"
+
+
 def script(text: str) -> List[List[Any]]:
     found = json.loads(text)
     if not isinstance(found, list) or not all(isinstance(it, list) for it in found):
@@ -93,10 +101,23 @@ def parser() -> Parser:
         formatter_class=argparse.RawDescriptionHelpFormatter,
         allow_abbrev=False,
     )
-    where = made.add_mutually_exclusive_group(required=True)
-    where.add_argument("--port", type=number(65535), metavar="P", help="the server listens on this port of 127.0.0.1")
-    where.add_argument("--socket", metavar="PATH", help="the server listens on this Unix socket")
-    where.add_argument("--file", metavar="FILE", help="the lock is in this file, which processes map")
+    made.add_argument(
+        "--port",
+        dest="servers",
+        action="append",
+        type=ports,
+        metavar="P[,P..]",
+        help="the server listens on this port of 127.0.0.1, or on one of these, which are tried in turn",
+    )
+    made.add_argument(
+        "--socket",
+        dest="servers",
+        action="append",
+        type=lambda path: [path],
+        metavar="PATH",
+        help="the server listens on this Unix socket; with several of these options, on one of them",
+    )
+    made.add_argument("--file", metavar="FILE", help="the lock is in this file, which processes map")
     who = made.add_mutually_exclusive_group(required=True)
     who.add_argument("--worker", type=number(255), metavar="N", help="this worker")
     who.add_argument("--any", action="store_true", help="a worker with a pending job of LOCK, or else one that is ready and has no client")
@@ -125,6 +146,9 @@ def parsed(words: Sequence[str]) -> Words:
     command = list(words[at + 1 :])
     if not command:
         own.error("there is no command: write it after --")
+    servers = [server for given in found.servers or [] for server in given]
+    if (found.file is None) == (not servers):
+        own.error("name the server, by --port or --socket, or else the file, by --file")
     if found.kill and found.any:
         own.error("--kill ends the command of one worker: name it by --worker")
     if found.key_file is not None and found.file is not None:
@@ -132,8 +156,7 @@ def parsed(words: Sequence[str]) -> Words:
     if found.space is not None and found.file is not None:
         own.error("--space is for a server: a file has one world of workers and locks")
     return Words(
-        found.port,
-        found.socket,
+        servers,
         found.file,
         found.worker,
         found.wait,

@@ -1,6 +1,6 @@
 "use strict";
 
-// The conversations that all clients have with one stand-in server: ../conversations, which docs/protocol.md describes.
+// The conversations that all clients have with one stand-in server: ../conversations, whose README describes them.
 
 const assert = require("node:assert");
 const { spawn } = require("node:child_process");

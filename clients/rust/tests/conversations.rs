@@ -1,5 +1,4 @@
-//! The conversations that all clients have with one stand-in server: ../conversations, which docs/protocol.md
-//! describes.
+//! The conversations that all clients have with one stand-in server: ../conversations, whose README describes them.
 
 use std::collections::VecDeque;
 use std::env;
