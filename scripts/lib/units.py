@@ -5,7 +5,7 @@ import re
 
 from lib.programs import TOP
 
-UNITS = ("rme", "rme-keys", "rme-spaces")
+UNITS = ("rme", "rme-keys", "rme-spaces", "rme-replica")
 PROGRAM = "/usr/local/bin/rme"  # as the examples name it
 # What stands above each unit, in the place of how an example is installed.
 HEADS = {
@@ -27,6 +27,13 @@ HEADS = {
 #   {prefix}/share/rme/new-key ops '*' '+*'    # the secret is for who creates spaces, and the line for /etc/rme/keys
 #   install -D -m 640 -g rme keys /etc/rme/keys
 #   systemctl enable --now rme-spaces
+""",
+    "rme-replica": """\
+# One of the servers of a log in an etcd cluster, whose nodes are at ports 2381 to 2383 of this machine. Once, as root:
+#
+#   {prefix}/share/rme/new-key runner-a 0-3    # the secret is for the client, and the line for /etc/rme/keys of all machines
+#   install -D -m 640 -g rme keys /etc/rme/keys
+#   systemctl enable --now rme-replica
 """,
 }
 TAIL = """\

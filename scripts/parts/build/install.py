@@ -140,7 +140,7 @@ def try_completions(folder):
     for name in ("one.state", "other.text"):
         write(os.path.join(folder, "files", name), "")
     write(os.path.join(folder, "files", "old", "spaces"), "")
-    commands = "run check draw explain threads serve look ask help".split()
+    commands = "run check draw explain threads serve look move ask help".split()
     cases = {
         ("",): [*commands, "-h", "--help", "-V", "--version"],
         ("s",): ["serve"],
@@ -164,6 +164,13 @@ def try_completions(folder):
         ("run", "--image", "one"): ["one.state"],
         ("look", "oth"): ["other.text"],
         ("look", "--c"): ["--check"],
+        ("look", "--l"): ["--lines"],
+        ("look", "--engine", ""): [],
+        ("look", "--password-file", "one"): ["one.state"],
+        ("move", "oth"): ["other.text"],
+        ("move", "--p"): ["--password-file", "--patience"],
+        ("serve", "--e"): ["--engine"],
+        ("serve", "--t"): ["--take"],
         ("explain", "TooM"): ["TooManyJobs"],
         ("explain", "sta"): ["status"],
         ("check", ""): [],

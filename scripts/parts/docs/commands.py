@@ -6,11 +6,12 @@ bash, with rme-hold in the path:
   ```console          each line `$ COMMAND` is run; the lines below it are what it prints
   ```sh               the block is run as one; what it prints is not shown
   ```sh table         the same; it prints the answers in the column Answer of the next table
+  ```sh needs NAME    the same, if this program is there
   ```text output      what the block above prints
   ```console server   its one command is started, and must end once the next block was run
   ```sh skip: WHY     not run here; also with console
 
-Each command must end with status 0. The ports 7000 and 9464 stand for free ones. A command in an indented block is an error:
+Each command must end with status 0. The ports 7000, 7001, 9464, 2379 and 2380 stand for free ones. A command in an indented block is an error:
 it would not be run. PROGRAM is run in the place of ./rme."""
 
 import contextlib
@@ -30,7 +31,7 @@ from lib.programs import TOP, built
 
 PROGRAM = os.path.realpath(sys.argv[1]) if len(sys.argv) > 1 else built()
 SECONDS = 60
-PORTS = ("7000", "9464")  # as documents have them
+PORTS = ("7000", "7001", "9464", "2379", "2380")  # as documents have them
 
 INDENTED = re.compile(r" {4}(\$ |\./rme |rme |rt |bash |python3? |scripts/|bench/)")
 
@@ -182,6 +183,9 @@ def try_block(folder, blocks, at):
         return
     if block.words.startswith("skip: "):
         skip(block.place, block.words[6:])
+        return
+    if block.words.startswith("needs ") and not shutil.which(block.words[6:]):
+        skip(block.place, f"there is no {block.words[6:]}")
         return
     if block.words == "server":
         folder.serve(block.place, *commands_of(block)[0])

@@ -14,6 +14,7 @@ import subprocess
 import sys
 
 from lib.checks import Stop, check, main, main_in_folders, same, skip
+from lib.clusters import Cluster
 from lib.fresh_roots import Root, why_none
 from lib.help import told_by
 from lib.packages import can_be_made, made_in, one
@@ -68,8 +69,15 @@ class Unit:
         self.user = values_of(text, "User")[0][0]
         # A port that is in use here is in nobody's way.
         self.words = re.sub(r"--port 7000\b", "--port 0", " ".join(values_of(text, "ExecStart")[0])).split()
+        # What systemd would put there; a start in place of a server that was ended waits for nobody.
+        own = {"%H:7443": "here:7443", "$RME_TAKE": "--take"}
+        self.words = [own.get(word, word) for word in self.words]
         self.folders = [f"var/lib/{path}" for it in values_of(text, "StateDirectory") for path in it]
         self.runtime = [f"run/{path}" for it in values_of(text, "RuntimeDirectory") for path in it]
+
+    def ask_cluster(self, engines):
+        """It is to find its log there."""
+        self.words[self.words.index("--engine") + 1] = engines
 
     def make_folders(self):
         for path in (*self.folders, *self.runtime):
@@ -123,10 +131,25 @@ def try_user(root):
     same("the folder of keys", (entry.st_mode & 0o777, entry.st_uid, entry.st_gid), (0o750, 0, root.user("rme")[1]))
 
 
-def try_units(root):
+def try_cluster_unit(root, folder, secret):
+    """The command of the unit whose state lies in a cluster, twice."""
+    name = "rme-replica"
+    if missing := next((name for name in ("etcd", "setpriv") if not shutil.which(name)), None):
+        skip(f"{name}: jobs", f"there is no {missing}")
+        return
+    unit = Unit(root, name)
+    with Cluster(os.path.join(folder, "cluster"), nodes=1) as cluster:
+        unit.ask_cluster(cluster.engines)
+        found = [unit.job(secret, None) for _ in range(2)]
+    user = root.user("rme")[0]
+    same(f"{name}: two jobs, as the user rme", found, [("5", user), ("10", user)])
+
+
+def try_units(root, folder):
     """Each unit's command, twice: its state outlives it."""
     secret, user = put_keys(root), root.user("rme")[0]
-    for name in UNITS:
+    try_cluster_unit(root, folder, secret)
+    for name in (name for name in UNITS if name != "rme-replica"):
         unit = Unit(root, name)
         key, space = ({} if name == "rme" else secret), ("tenant-7" if name == "rme-spaces" else None)
         # rme and rme-keys serve the same state.
@@ -186,7 +209,7 @@ def try_installed(folder):
     ran = root.run("rme", "--version")
     same("rme --version", (ran.stdout, ran.stderr), (told_by(built(), "--version"), ""))
     try_user(root)
-    try_units(root)
+    try_units(root, folder)
     try_removal(root, before)
     try_again(root, deb)
     try_other_user(root, deb)

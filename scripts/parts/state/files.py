@@ -204,7 +204,7 @@ def try_looking(folder):
         told = ends_with(look(bad, *words))
         wanted = 2, b"", f"fault: bad state\n  {bad}: line 1\n".encode()
         same(f"look at another file {' '.join(words)}", told, wanted)
-    for words in ([], ["--json", "--check", "F"], ["F", "F"], ["--lines", "F"]):
+    for words in ([], ["--json", "--check", "F"], ["F", "F"], ["--lines", "--json", "F"], ["--rows", "F"]):
         ran = run(["look", *words])
         same(f"refused by its form: look {' '.join(words)}", (ran.returncode, ran.stderr[:7]), (2, b"error: "))
     good = os.path.join(folder, "good")
