@@ -9,7 +9,7 @@ use std::net::ToSocketAddrs;
 use std::random::RandomSource;
 use std::time::Duration;
 
-/// The part of a call's time that one try at one node has.
+/// The number of tries at nodes that keep silent for which the time of a call is enough.
 const TRIES: u32 = 3;
 
 /// The most seconds that one try of a store has.
@@ -18,10 +18,9 @@ const STORE_TRY: u64 = 1;
 /// The limits of calls that are made once: each has the patience that was asked for.
 pub fn asking_limits(place: &EtcdPlace) -> CallLimits {
     let patience = patience_of(place);
-    let one_try = patience / TRIES;
     CallLimits {
-        one_try,
-        call: patience.saturating_sub(one_try),
+        one_try: patience / TRIES,
+        call: patience,
     }
 }
 

@@ -72,10 +72,11 @@ impl<L: LogStore, J: LogTag> DurableUpTo<L, J> {
         }
     }
 
-    /// Waits for a while as long as a thread writes and this position is not yet committed. Answers whether both are
-    /// still so.
+    /// Waits for a while as long as a thread writes and this position is not yet committed; not for long if the store is
+    /// shared, since a write then takes milliseconds. Answers whether both are still so.
     pub(crate) fn is_behind(&self, end: &LogPosition<L, J>) -> bool {
-        for _ in 0..ROUNDS {
+        let rounds = if self.is_shared { 1 } else { ROUNDS };
+        for _ in 0..rounds {
             if !self.stays_behind(end) {
                 return false;
             }

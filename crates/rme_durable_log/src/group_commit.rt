@@ -1,6 +1,7 @@
 //! Group commit: one thread at a time writes for all that wait for their lines.
 
 use crate::durable_up_to::DurableUpTo;
+use crate::gathering::Gathering;
 use crate::log_appender::PendingBatch;
 use crate::log_position::LogPosition;
 use crate::log_rule::LogTag;
@@ -11,6 +12,7 @@ use std::alloc::Global;
 use std::mem::replace;
 use std::sync::atomic::{AtomicBool, Ordering};
 use std::sync::{Condvar, Mutex, Wait};
+use std::time::Clock;
 
 /// The value under the executor's lock that has the pending lines.
 pub trait PendingLines<L: LogStore, J: LogTag> {
@@ -27,6 +29,8 @@ pub struct GroupCommit<L: LogStore, J: LogTag> {
     marks: DurableUpTo<L, J>,
     /// Whether storing lines takes no longer than waking another thread for it.
     is_quick: bool,
+    /// Which threads a write to a shared store waits for.
+    gathering: Gathering,
     /// Whether an event could not be stored, or written as a line. It is set before the waiting threads are woken.
     is_broken: AtomicBool,
     /// Lines were written, or could not be.
@@ -54,6 +58,7 @@ impl<L: LogStore, J: LogTag> GroupCommit<L, J> {
         GroupCommit {
             alloc,
             is_quick: held.is_quick(),
+            gathering: Gathering::new(held.is_shared()),
             back: Mutex::new(CommitState {
                 held: Some(held),
                 spare: String::new(alloc),
@@ -66,7 +71,7 @@ impl<L: LogStore, J: LogTag> GroupCommit<L, J> {
 
     /// Waits until everything before this position was in the store; writes it if no other thread does. If the store is
     /// shared, it waits until the store was asked, after that, whether its bytes are still those of this log.
-    pub fn commit<R: Wait, F: PendingLines<L, J>>(
+    pub fn commit<R: Wait + Clock, F: PendingLines<L, J>>(
         &self,
         rt: &R,
         front: &Mutex<F>,
@@ -74,6 +79,9 @@ impl<L: LogStore, J: LogTag> GroupCommit<L, J> {
     ) -> Result<(), NotDurable>
         ensures { OnOk result (IsCommitted L.shared L.holds end.now) }
     {
+        if !self.marks.is_committed(end) {
+            self.gathering.asked();
+        }
         for _ in rt.forever() {
             let is_behind = self.marks.is_behind(end);
             // Checked first: the answer for this position may also show an event that was lost.
@@ -94,7 +102,9 @@ impl<L: LogStore, J: LogTag> GroupCommit<L, J> {
                 self.marks.begin_write();
                 let spare = replace(&mut back.spare, String::new(self.alloc));
                 drop(back);
+                self.gathering.wait(rt);
                 let taken = lock_with_spin(rt, front).take_lines(spare);
+                self.gathering.taken();
                 self.write_batch(rt, held, taken);
             } else if is_behind {
                 drop(self.written.wait(rt, back));
@@ -138,6 +148,7 @@ impl<L: LogStore, J: LogTag> GroupCommit<L, J> {
             return self.fail(rt);
         };
         let kept = held.append(&taken);
+        self.gathering.written();
         self.return_writer(rt, taken.into_empty(), kept);
     }
 

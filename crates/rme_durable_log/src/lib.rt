@@ -12,6 +12,7 @@
 #![tactic(auto)]
 
 mod durable_up_to;
+mod gathering;
 mod group_commit;
 mod log_appender;
 mod log_author;

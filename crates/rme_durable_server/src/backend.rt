@@ -130,7 +130,7 @@ impl<L: LogStore, H: CloseHandle, J: ServerTag> DurableServer<L, H, J> {
     ghost use Rattle.rme_session_protocol.specs.ClientReplies.{reply_of_client};
 
     /// Answers the reply to an order of a session, once everything before the session's position is durable.
-    fn answer_committed<R: Wait>(
+    fn answer_committed<R: Wait + Clock>(
         &self,
         rt: &R,
         session: &DurableSession<L, J>,
@@ -229,7 +229,7 @@ impl<L: LogStore, H: CloseHandle, J: ServerTag> DurableServer<L, H, J> {
 
     /// Answers which worker the session has, and the reply to its attachment, once everything before the session's
     /// position is durable.
-    fn answer_chosen<R: Wait>(
+    fn answer_chosen<R: Wait + Clock>(
         &self,
         rt: &R,
         session: &DurableSession<L, J>,

@@ -241,7 +241,11 @@ impl<L: LogStore, H: CloseHandle, J: ServerTag> DurableServer<L, H, J> {
 
     /// Waits until everything before this position is durable, and the log was still the server's own after it; writes
     /// it if no other session does.
-    pub(crate) fn commit<R: Wait>(&self, rt: &R, end: &LogPosition<L, J>) -> Result<(), NotDurable>
+    pub(crate) fn commit<R: Wait + Clock>(
+        &self,
+        rt: &R,
+        end: &LogPosition<L, J>,
+    ) -> Result<(), NotDurable>
         ensures { OnOk result (IsCommitted L.shared L.holds end.now) }
     {
         self.commits.commit(rt, &self.executor, end)

@@ -7,6 +7,7 @@ use http1::{Client, Event, Limits};
 use httparse::spans::EMPTY_HEADER_SPAN;
 use std::alloc::Global;
 use std::io::{Read, Write};
+use std::net::TcpStream;
 use std::time::Clock;
 
 /// The longest body of an answer.
@@ -18,10 +19,10 @@ const MOST_HEADERS: usize = 64;
 
 /// A connection to one node, for one request after another.
 #[derive(Drop)]
-pub(crate) struct NodeConnection<S: Read + Write + Drop> {
+pub(crate) struct NodeConnection {
     /// The node, as requests name it.
     host: String,
-    stream: S,
+    stream: TcpStream,
     client: Client,
     /// What came and was not consumed.
     unread: Vec<u8>,
@@ -43,9 +44,9 @@ enum AfterStep {
     End,
 }
 
-impl<S: Read + Write + Drop> NodeConnection<S> {
+impl NodeConnection {
     /// A connection to the node of this name over this stream, on which nothing was sent.
-    pub(crate) fn new(alloc: Global, host: String, stream: S) -> NodeConnection<S> {
+    pub(crate) fn new(alloc: Global, host: String, stream: TcpStream) -> NodeConnection {
         NodeConnection {
             host,
             stream,
@@ -59,7 +60,7 @@ impl<S: Read + Write + Drop> NodeConnection<S> {
         self.client.is_idle() && self.unread.is_empty()
     }
 
-    /// Sends a request, and reads its answer.
+    /// Sends a request, and reads its answer. No wait is longer than what the deadline leaves when it begins.
     pub(crate) fn ask(
         &mut self,
         alloc: Global,
@@ -68,7 +69,7 @@ impl<S: Read + Write + Drop> NodeConnection<S> {
         request: GatewayRequest<'_, '_>,
     ) -> Result<GatewayAnswer, EtcdFault> {
         let bytes = request_bytes(alloc, &mut self.client, self.host.as_str(), request)?;
-        self.stream.write_all(bytes.as_slice())?;
+        self.write(clock, deadline, bytes.as_slice())?;
         let mut answer = GatewayAnswer {
             status: 0,
             body: Vec::new(alloc),
@@ -81,6 +82,21 @@ impl<S: Read + Write + Drop> NodeConnection<S> {
             }
         }
         Err(EtcdFault::BadAnswer)
+    }
+
+    /// Writes the bytes of a request.
+    fn write(
+        &mut self,
+        clock: &impl Clock,
+        deadline: TryDeadline,
+        bytes: &[u8],
+    ) -> Result<(), EtcdFault> {
+        let Some(left) = deadline.left(clock) else {
+            return Err(EtcdFault::Unreachable);
+        };
+        self.stream.set_write_timeout(Some(left))?;
+        self.stream.write_all(bytes)?;
+        Ok(())
     }
 
     /// Consumes the next part of the answer.
@@ -115,9 +131,10 @@ impl<S: Read + Write + Drop> NodeConnection<S> {
 
     /// Reads more bytes.
     fn read_more(&mut self, clock: &impl Clock, deadline: TryDeadline) -> Result<(), EtcdFault> {
-        if deadline.is_over(clock) {
+        let Some(left) = deadline.left(clock) else {
             return Err(EtcdFault::Unreachable);
-        }
+        };
+        self.stream.set_read_timeout(Some(left))?;
         let mut buffer = [0; READ_LENGTH];
         let count = self.stream.read(&mut buffer)?;
         if count == 0 {

@@ -1,6 +1,6 @@
 //! Calls of a cluster: the endpoints in turn, the user's token, and the time that a call may take.
 
-ghost use Rattle.std.specs.Prelude.{◌≡◌, ◌+◌, ◌*◌, ◌/◌, ◌≤◌};
+ghost use Rattle.std.specs.Prelude.{◌≡◌, ◌/◌, ◌≤◌};
 ghost use Rattle.std.specs.Duration.{as_nanos};
 
 use crate::connection::{GatewayAnswer, NodeConnection};
@@ -31,27 +31,24 @@ const STORE_TRIES: u32 = 8;
 /// time.
 #[derive(Clone, Copy)]
 pub struct CallLimits {
-    /// The time of one try at one endpoint. No wait in a try takes longer, and none for an answer begins later.
+    /// The time of one try at one endpoint, or what the call has left if that is less.
     pub one_try: Duration,
-    /// The time of all tries of a call. A try that began before is ended by its own.
+    /// The time of all tries of a call.
     pub call: Duration,
 }
 
 impl CallLimits {
-    /// Limits by which the eight tries of a store together have no more time than this patience. One try at one
-    /// endpoint has the second time, or an eighth of the patience if that is less.
+    /// Limits by which the eight tries of a store together have this patience. One try at one endpoint has the second
+    /// time, or an eighth of the patience if that is less.
     pub fn of_patience(patience: Duration, one_try: Duration) -> CallLimits
-        ensures within { 8 * (as_nanos result.call + as_nanos result.one_try) ≤ as_nanos patience }
+        ensures share { as_nanos result.call ≡ as_nanos patience / 8 }
         ensures bounded { as_nanos result.one_try ≤ as_nanos one_try }
         ensures whole { as_nanos one_try ≤ as_nanos patience / 8 → result.one_try ≡ one_try }
     {
-        let share = patience / STORE_TRIES;
-        match share.checked_sub(one_try) {
-            Some(call) => CallLimits { one_try, call },
-            None => CallLimits {
-                one_try: share,
-                call: Duration::ZERO,
-            },
+        let call = patience / STORE_TRIES;
+        CallLimits {
+            one_try: if call < one_try { call } else { one_try },
+            call,
         }
     }
 }
@@ -64,7 +61,7 @@ pub(crate) struct EtcdCalls {
     endpoints: Vec<Endpoint>,
     /// The endpoint that is tried next.
     turn: usize,
-    connection: Option<NodeConnection<TcpStream>>,
+    connection: Option<NodeConnection>,
     user: Option<EtcdUser>,
     token: Option<String>,
     limits: CallLimits,
@@ -106,12 +103,12 @@ impl EtcdCalls {
             return Err(EtcdFault::Unreachable);
         };
         for _ in 0..u64::MAX {
-            match self.try_call(path, body) {
+            match self.try_call(deadline, path, body) {
                 Ok(answer) => return Ok(answer),
                 Err(EtcdFault::NoSpace) => return Err(EtcdFault::NoSpace),
                 Err(EtcdFault::NotAllowed) => return Err(EtcdFault::NotAllowed),
                 Err(fault) => {
-                    self.take_next_endpoint();
+                    self.take_next_endpoint(deadline);
                     if deadline.is_over(&self.rt) {
                         return Err(fault);
                     }
@@ -121,32 +118,40 @@ impl EtcdCalls {
         Err(EtcdFault::Unreachable)
     }
 
-    /// Closes the connection, and goes to the next endpoint. Pauses after the last.
-    fn take_next_endpoint(&mut self) {
+    /// Closes the connection, and goes to the next endpoint. Pauses after the last, within the time of the call.
+    fn take_next_endpoint(&mut self, deadline: TryDeadline) {
         self.connection = None;
         self.turn = self.turn.saturating_add(1);
         if self.turn >= self.endpoints.len() {
             self.turn = 0;
-            thread::sleep(&self.rt, Duration::from_millis(PAUSE));
+            let pause = Duration::from_millis(PAUSE);
+            if let Some(left) = deadline.left(&self.rt) {
+                thread::sleep(&self.rt, if left < pause { left } else { pause });
+            }
         }
     }
 
     /// Tries once, at the present endpoint. A token that was refused is asked for again once.
-    fn try_call(&mut self, path: &str, body: &[u8]) -> Result<Vec<u8>, EtcdFault> {
-        self.log_in()?;
-        match self.ask(path, body)? {
+    fn try_call(
+        &mut self,
+        deadline: TryDeadline,
+        path: &str,
+        body: &[u8],
+    ) -> Result<Vec<u8>, EtcdFault> {
+        self.log_in(deadline)?;
+        match self.ask(deadline, path, body)? {
             Ok(answer) => Ok(answer),
             Err(EtcdFault::NotAllowed) if self.token.is_some() => {
                 self.token = None;
-                self.log_in()?;
-                self.ask(path, body)?
+                self.log_in(deadline)?;
+                self.ask(deadline, path, body)?
             }
             Err(fault) => Err(fault),
         }
     }
 
     /// Asks for a token, if there is a user and none is known.
-    fn log_in(&mut self) -> Result<(), EtcdFault> {
+    fn log_in(&mut self, deadline: TryDeadline) -> Result<(), EtcdFault> {
         if self.token.is_some() {
             return Ok(());
         }
@@ -154,22 +159,23 @@ impl EtcdCalls {
             return Ok(());
         };
         let body = login_request(self.alloc, user.name.as_str(), user.password.as_str())?;
-        let answer = self.ask("/v3/auth/authenticate", body.as_bytes())??;
+        let answer = self.ask(deadline, "/v3/auth/authenticate", body.as_bytes())??;
         self.token = Some(login_token(self.alloc, answer.as_slice())?);
         Ok(())
     }
 
     /// Sends a request once, and answers the body of its answer, or what it was refused for. An error if no whole
-    /// answer came.
+    /// answer came within the time of one try, or what is left of the call.
     fn ask<'a>(
         &mut self,
+        deadline: TryDeadline,
         path: &'a str,
         body: &'a [u8],
     ) -> Result<Result<Vec<u8>, EtcdFault>, EtcdFault> {
-        let Some(deadline) = TryDeadline::start(&self.rt, self.limits.one_try) else {
+        let Some(deadline) = deadline.part(&self.rt, self.limits.one_try) else {
             return Err(EtcdFault::Unreachable);
         };
-        let mut connection = self.connect()?;
+        let mut connection = self.connect(deadline)?;
         let token = match &self.token {
             Some(token) => Some(token.as_str()),
             None => None,
@@ -183,17 +189,15 @@ impl EtcdCalls {
     }
 
     /// The connection to the present endpoint.
-    fn connect(&mut self) -> Result<NodeConnection<TcpStream>, EtcdFault> {
+    fn connect(&mut self, deadline: TryDeadline) -> Result<NodeConnection, EtcdFault> {
         if let Some(connection) = self.connection.take() {
             return Ok(connection);
         }
-        let Some(endpoint) = self.endpoints.get(self.turn) else {
+        let (Some(endpoint), Some(left)) = (self.endpoints.get(self.turn), deadline.left(&self.rt))
+        else {
             return Err(EtcdFault::Unreachable);
         };
-        let limit = self.limits.one_try;
-        let stream = TcpStream::connect_timeout(&self.rt, &endpoint.address, limit)?;
-        stream.set_read_timeout(Some(limit))?;
-        stream.set_write_timeout(Some(limit))?;
+        let stream = TcpStream::connect_timeout(&self.rt, &endpoint.address, left)?;
         stream.set_nodelay(true)?;
         let host = String::from_str(self.alloc, endpoint.host.as_str())?;
         Ok(NodeConnection::new(self.alloc, host, stream))

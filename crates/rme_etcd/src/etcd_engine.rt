@@ -21,13 +21,13 @@ const RANGE: &str = "/v3/kv/range";
 const PAGE: u64 = 16;
 /// How many times a log is read that is replaced meanwhile.
 const READS: u32 = 8;
-/// A leader that changed nothing for this number of seconds tells by a beat that it runs.
-const BEAT: u64 = 1;
+/// A leader that changed nothing for this number of milliseconds tells by a beat that it runs.
+const BEAT: u64 = 500;
 
 /// A log in etcd, as an engine. Of it no contract knows the log.
 ///
-/// `is` beats if for a second no add and no beat was made. So a leader that asks at least once a second is never quiet
-/// for much longer.
+/// `is` beats if for half a second no add and no beat was made. So a leader that asks once a second is quiet for hardly
+/// longer than a second.
 ///
 /// A call that failed tells why by `fault`. Where storage is used up or the user is refused, trying again is of no use.
 #[derive(Drop)]
@@ -267,7 +267,7 @@ impl EtcdEngine {
             record: record.as_bytes(),
         };
         let body = add_request(self.alloc, keys, seen.as_bytes(), next.as_bytes(), lines)?;
-        let since = self.calls.since(Duration::from_secs(BEAT));
+        let since = self.calls.since(Duration::from_millis(BEAT));
         let added = self.change(body)?;
         if let Added::Made = &added {
             self.told_since = since;
@@ -289,7 +289,7 @@ impl EtcdEngine {
         self.change(body)
     }
 
-    /// Asks whether the log has this head, and beats if those who wait were told nothing for a second.
+    /// Asks whether the log has this head, and beats if those who wait were told nothing for half a second.
     fn try_is(&mut self, seen: &Head) -> Result<bool, EtcdFault> {
         if self.is_beat_due() {
             return self.try_beat(seen);
@@ -299,7 +299,7 @@ impl EtcdEngine {
         self.test(body)
     }
 
-    /// Whether those who wait were told nothing for a second.
+    /// Whether those who wait were told nothing for half a second.
     fn is_beat_due(&self) -> bool {
         match self.told_since {
             Some(since) => self.calls.is_over(since),
@@ -321,7 +321,7 @@ impl EtcdEngine {
             self.keys.beat(),
             beat.as_bytes(),
         )?;
-        let since = self.calls.since(Duration::from_secs(BEAT));
+        let since = self.calls.since(Duration::from_millis(BEAT));
         let has = self.test(body)?;
         if has {
             self.told_since = since;

@@ -12,8 +12,6 @@ mod etcd_calls;
 mod etcd_engine;
 mod etcd_fault;
 mod gateway_request;
-#[cfg(test)]
-mod tests;
 mod try_deadline;
 
 pub use endpoint::Endpoint;

@@ -1,4 +1,4 @@
-//! The time that one try may take.
+//! The time that a call, or one try of it, may take.
 
 use std::time::{Clock, Duration, Instant};
 
@@ -18,11 +18,20 @@ impl TryDeadline {
         }
     }
 
+    /// What is left of the time; `None` if it is over, or cannot be told.
+    pub(crate) fn left(&self, clock: &impl Clock) -> Option<Duration> {
+        let left = self.limit.checked_sub(self.start.elapsed(clock).ok()?)?;
+        if left.is_zero() { None } else { Some(left) }
+    }
+
     /// Whether the time is over, or cannot be told.
     pub(crate) fn is_over(&self, clock: &impl Clock) -> bool {
-        match self.start.elapsed(clock) {
-            Ok(passed) => passed >= self.limit,
-            Err(_) => true,
-        }
+        self.left(clock).is_none()
+    }
+
+    /// This time from now on, or what is left of this deadline if that is less. `None` if nothing is left.
+    pub(crate) fn part(&self, clock: &impl Clock, limit: Duration) -> Option<TryDeadline> {
+        let left = self.left(clock)?;
+        TryDeadline::start(clock, if left < limit { left } else { limit })
     }
 }

@@ -13,6 +13,7 @@ use std::process::Abort;
 use std::sync::{Mutex, Wait};
 use std::test::*;
 use std::thread::{Threads, join};
+use std::time::Clock;
 
 /// A store that counts its calls.
 #[derive(Drop)]
@@ -172,7 +173,7 @@ impl<L: LogStore, J: LogTag> LineSource<L, J> {
 }
 
 /// Appends a line and commits it.
-pub(crate) fn append_and_commit<L: LogStore, J: LogTag, R: Wait>(
+pub(crate) fn append_and_commit<L: LogStore, J: LogTag, R: Wait + Clock>(
     rt: &R,
     source: &Mutex<LineSource<L, J>>,
     commits: &GroupCommit<L, J>,
@@ -198,7 +199,7 @@ fn two_lines_are_kept(rt: HostRuntime) -> Result<(), Fail> {
     kept_by_two::<Brand, _>(&rt, rt.alloc(), OpenLog::new(pages))
 }
 
-fn kept_by_two<J: LogTag + Send + Sync, R: Threads + Wait + Abort + Sync>(
+fn kept_by_two<J: LogTag + Send + Sync, R: Threads + Wait + Clock + Abort + Sync>(
     rt: &R,
     alloc: Global,
     opened: OpenLog<Pages>,
@@ -226,7 +227,7 @@ fn other_bytes_take_their_place(rt: HostRuntime) -> Result<(), Fail> {
     replaced::<Brand, _>(&rt, rt.alloc(), OpenLog::new(pages))
 }
 
-fn replaced<J: LogTag, R: Wait + Abort>(
+fn replaced<J: LogTag, R: Wait + Clock + Abort>(
     rt: &R,
     alloc: Global,
     opened: OpenLog<Pages>,
@@ -251,7 +252,7 @@ fn nothing_is_kept_once_it_is_broken(rt: HostRuntime) -> Result<(), Fail> {
     broken::<Brand, _>(&rt, rt.alloc(), OpenLog::new(pages))
 }
 
-fn broken<J: LogTag, R: Wait + Abort>(
+fn broken<J: LogTag, R: Wait + Clock + Abort>(
     rt: &R,
     alloc: Global,
     opened: OpenLog<Pages>,
@@ -274,7 +275,7 @@ fn a_quick_store_is_written_at_once(rt: HostRuntime) -> Result<(), Fail> {
     kept_at_once::<Brand, _>(&rt, rt.alloc(), OpenLog::new(pages))
 }
 
-fn kept_at_once<J: LogTag, R: Wait + Abort>(
+fn kept_at_once<J: LogTag, R: Wait + Clock + Abort>(
     rt: &R,
     alloc: Global,
     opened: OpenLog<Pages>,

@@ -11,6 +11,7 @@ use std::process::Abort;
 use std::sync::atomic::{AtomicBool, AtomicU64, Ordering};
 use std::sync::{Mutex, Wait};
 use std::test::*;
+use std::time::Clock;
 
 /// What is seen of a store from outside: how often it was asked, and whether another process has taken it over.
 #[derive(Drop)]
@@ -89,7 +90,7 @@ fn a_shared_store_is_asked(rt: HostRuntime) -> Result<(), Fail> {
     asked::<Brand, _>(&rt, rt.alloc(), OpenLog::new(pages), &outside)
 }
 
-fn asked<'a, J: LogTag, R: Wait + Abort>(
+fn asked<'a, J: LogTag, R: Wait + Clock + Abort>(
     rt: &R,
     alloc: Global,
     opened: OpenLog<SharedPages<'a>>,
