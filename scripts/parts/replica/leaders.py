@@ -10,7 +10,7 @@ from lib.checks import check, same
 from lib.clusters import Cluster, main_with_etcd
 from lib.gateways import Gateway
 from lib.orders import LAST, ONE, STATUS, attach, job
-from lib.replicas import Replica, Worker, log_faults, status_in
+from lib.replicas import Replica, Worker, log_faults, looked, status_in
 from lib.servers import line_of
 
 QUIET, SLACK = 1, 1.5  # seconds
@@ -51,6 +51,20 @@ def is_refused(server):
         return False
     except ConnectionRefusedError:
         return True
+
+
+def try_idle(folder):
+    """A leader without clients: those who stand by see that it runs, and so does `rme look`."""
+    with Cluster(os.path.join(folder, "one"), 1) as cluster, Replica(cluster.engines, **SIZES) as leader:
+        check("it leads", leader.leads(), leader.told())
+        with Replica(cluster.engines, **SIZES) as one, Replica(cluster.engines, **SIZES) as two:
+            check("two stand by", one.stands_by() and two.stands_by(), (one.told(), two.told()))
+            seen = []
+            for _ in range(8):
+                seen.append(looked(cluster.engines).stdout.split(b" term 1 ")[0])
+                time.sleep(0.3)
+            same("a look says who leads", seen, [b"leader %s" % leader.address.encode()] * 8)
+            same("nobody takes over", (cluster.head()["term"], len(one.printed()), len(two.printed())), (1, 1, 1))
 
 
 def try_at_once(folder):
@@ -209,5 +223,5 @@ def try_never_back(folder):
 
 
 def part():
-    groups = try_taking_over, try_at_once, try_take, try_take_busy, try_stopped, try_cut_off, try_never_back
+    groups = try_taking_over, try_idle, try_at_once, try_take, try_take_busy, try_stopped, try_cut_off, try_never_back
     main_with_etcd(*groups, minutes=3)

@@ -109,6 +109,40 @@ def try_two_down(folder):
         same("the log", log_faults(cluster), [])
 
 
+def try_none(folder):
+    """No node is there, so that each refuses connections at once: orders wait as long as for nodes that are silent."""
+    patience = 6
+    with Cluster(os.path.join(folder, "three")) as cluster:
+        with Replica(cluster.engines, patience=patience, **SIZES) as server:
+            worker = Worker()
+            check("a job", server.leads() and worker.work(server), server.told())
+            session = server.session()
+            session.attach(0)
+            all_down(cluster)
+            session.send(line_of(**job("submit", "bank", 2, *ONE)))
+            time.sleep(patience / 2)
+            all_back(cluster)
+            same("a job that waited is answered", session.hear(), text(ok="submit", receipt=receipt(0, 2, "bank", 1, 2)) + b"\n")
+            all_down(cluster)
+            began = time.monotonic()
+            session.send(line_of(**job("submit", "bank", 3, *ONE)))
+            same("after its patience the server ends", server.end()[0], 4)
+            took = time.monotonic() - began
+            check(f"after {took:.1f} of {patience} seconds", patience - 2 < took < patience + 3, took)
+            same("nothing is answered", session.hear(), b"")
+
+
+def all_down(cluster):
+    for node in cluster.nodes:
+        node.kill()
+
+
+def all_back(cluster):
+    for node in cluster.nodes:
+        cluster.start(node)
+    cluster.until_ready()
+
+
 def two_down(cluster):
     for node in cluster.nodes[1:]:
         node.kill()
@@ -225,5 +259,5 @@ def try_snapshot(folder):
 
 
 def part():
-    groups = try_one_by_one, try_two_down, try_not_there, try_full, try_users, try_snapshot
+    groups = try_one_by_one, try_two_down, try_none, try_not_there, try_full, try_users, try_snapshot
     main_with_etcd(*groups, minutes=2)
