@@ -13,7 +13,7 @@ use Rattle.rme_line_io.specs.declared.fault.EngineFault.TheVariants as engine
 use Rattle.rme_line_io.specs.declared.fault.ServeFault.{ServeFault}
 use Rattle.rme_line_io.specs.declared.fault.ServeFault.TheVariants as serving
 use Rattle.rme_cli_messages.specs.declared.fault.CliFault.{CliFault}
-use Rattle.rme_cli_messages.specs.declared.fault.CliFault.TheVariants.{BadArguments, ReadFailed, WriteFailed, NoMemory, BadNames, ImageUnread, BadImage, OtherLocks, Unsavable, ImageUnwritten, FolderUnsynced, ListenFailed, ConnectFailed, AcceptFailed, NoThread, BadState, StateChanged, StateOfVersion, StateOfProcesses, BadWords, StateUnread, StateUnwritten, StateNotGrown, Unexplained, NothingAsked}
+use Rattle.rme_cli_messages.specs.declared.fault.CliFault.TheVariants.{BadArguments, ReadFailed, WriteFailed, NoMemory, BadNames, ImageUnread, BadImage, OtherLocks, Unsavable, ImageUnwritten, FolderUnsynced, ListenFailed, ConnectFailed, NoServer, AcceptFailed, NoThread, BadState, StateChanged, StateOfVersion, StateOfProcesses, BadWords, StateUnread, StateUnwritten, StateNotGrown, Unexplained, NothingAsked}
 use Rattle.rme_cli_messages.specs.declared.argument.BadArgument.TheVariants.{NoText}
 
 abbrev pub fault_status : CliFault → ℕ
@@ -30,6 +30,7 @@ fault_status (ImageUnwritten file why) = 4
 fault_status (FolderUnsynced file why) = 4
 fault_status (ListenFailed place why) = 6
 fault_status (ConnectFailed place why) = 6
+fault_status (NoServer tries) = 6
 fault_status (AcceptFailed place) = 6
 fault_status NoThread = 7
 fault_status (BadState file line) = 2

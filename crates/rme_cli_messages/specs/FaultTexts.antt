@@ -3,7 +3,7 @@ use Rattle.std.specs.Prelude.{ℕ, List, ◌++◌, codes, decimal, string_bytes,
 use Rattle.rme_cli_messages.specs.declared.argument.BadArgument.{BadArgument}
 use Rattle.rme_cli_messages.specs.declared.argument.BadArgument.TheVariants.{NoText, NoFile, NoName, Twice, ManyLocks, OutOfRange, FallsBack, NoSocket, ServedAlready, NoState, StateServed, OtherSize, OtherNames, NoNames, RenewalTaken, RenewalUnnamed}
 use Rattle.rme_cli_messages.specs.declared.fault.CliFault.{CliFault}
-use Rattle.rme_cli_messages.specs.declared.fault.CliFault.TheVariants.{BadArguments, ReadFailed, WriteFailed, NoMemory, BadNames, ImageUnread, BadImage, OtherLocks, Unsavable, ImageUnwritten, FolderUnsynced, ListenFailed, ConnectFailed, AcceptFailed, NoThread, BadState, StateChanged, StateOfVersion, StateOfProcesses, BadWords, StateUnread, StateUnwritten, StateNotGrown, Unexplained, NothingAsked}
+use Rattle.rme_cli_messages.specs.declared.fault.CliFault.TheVariants.{BadArguments, ReadFailed, WriteFailed, NoMemory, BadNames, ImageUnread, BadImage, OtherLocks, Unsavable, ImageUnwritten, FolderUnsynced, ListenFailed, ConnectFailed, NoServer, AcceptFailed, NoThread, BadState, StateChanged, StateOfVersion, StateOfProcesses, BadWords, StateUnread, StateUnwritten, StateNotGrown, Unexplained, NothingAsked}
 use Rattle.rme_cli_messages.specs.declared.fault.SaveError.{SaveError}
 use Rattle.rme_cli_messages.specs.declared.fault.SaveError.TheVariants.{Irregular, Unwritable}
 
@@ -62,6 +62,9 @@ fault_text (Unsavable file why) = None
 fault_text (FolderUnsynced file why) = None
 fault_text (ListenFailed place why) = None
 fault_text (ConnectFailed place why) = None
+fault_text (NoServer tries) =
+    Some (codes "no server lets this client in" ++ (string_bytes tries ++ codes
+    "\n  start one by `rme serve --state FILE LOCK`, or name its --port or its --socket"))
 fault_text (AcceptFailed place) =
     Some (codes "socket failed\n  " ++ (string_bytes place ++ codes ": a connection could not be accepted"))
 fault_text NoThread = Some (codes "no thread")

@@ -60,6 +60,8 @@ pub enum CliFault {
     ListenFailed(String, io::Error),
     /// The client cannot connect to the server here: `port 4000`, or the path of a socket.
     ConnectFailed(String, io::Error),
+    /// None of the client's servers lets it in. The text is a newline, the address and the reason of each.
+    NoServer(String),
     /// The server could not accept a connection here.
     AcceptFailed(String),
     /// No thread could be started for a connection.
@@ -123,6 +125,10 @@ impl fmt::Display for CliFault {
                 f,
                 "no server at {place}: {why}\n  start one by `rme serve --state FILE LOCK`, or name its --port or its --socket"
             ),
+            CliFault::NoServer(tries) => write!(
+                f,
+                "no server lets this client in{tries}\n  start one by `rme serve --state FILE LOCK`, or name its --port or its --socket"
+            ),
             CliFault::AcceptFailed(place) => write!(
                 f,
                 "socket failed\n  {place}: a connection could not be accepted"
@@ -185,6 +191,7 @@ impl CliFault {
             CliFault::FolderUnsynced(_, _) => 4,
             CliFault::ListenFailed(_, _) => 6,
             CliFault::ConnectFailed(_, _) => 6,
+            CliFault::NoServer(_) => 6,
             CliFault::AcceptFailed(_) => 6,
             CliFault::NoThread => 7,
             CliFault::BadState(_, _) => 2,

@@ -121,6 +121,14 @@ def try_both():
     same("a refusal and a status of one name", both, ["20 NoMemory: memory was refused", "status 5 NoMemory: memory ran out"])
 
 
+def try_cluster():
+    """Each status with which `rme look etcd:NAME` or `rme move` may end names them."""
+    for command, statuses in ("rme look", (1, 2, 3, 6)), ("rme move", (2, 3, 4, 6)):
+        for status in statuses:
+            ended = run(["explain", "status", str(status)])
+            check(f"explain status {status} names {command}", ended.returncode == 0 and command in ended.stdout, ended)
+
+
 def try_full():
     with open("/dev/full", "w") as full:
         ended = run(["explain"], stdout=full)
@@ -128,4 +136,4 @@ def try_full():
 
 
 def part():
-    main(try_list, try_both, try_several, try_unknown, try_full, try_help)
+    main(try_list, try_both, try_several, try_unknown, try_cluster, try_full, try_help)
