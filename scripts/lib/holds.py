@@ -19,10 +19,11 @@ SHARED = os.path.join(TOP, "clients", "processes")
 
 
 class Way:
-    """A place of the words of a lock `bank` and a lock `shop`, for four workers; `words` are those of rme-hold."""
+    """A place of the words of a lock `bank` and a lock `shop`, for four workers; `words` are those of rme-hold. If `ports` are
+    set, they are tried in place of that of the server."""
 
     def __init__(self, name, folder):
-        self.name, self.folder, self.server, self.door = name, folder, None, None
+        self.name, self.folder, self.server, self.door, self.ports = name, folder, None, None, None
         self.path = os.path.join(folder, f"{name}.words")
         if name == "file":
             shared().create(self.path, ["bank", "shop"], workers=4)
@@ -38,7 +39,9 @@ class Way:
 
     @property
     def words(self):
-        return ["--file", self.path] if self.name == "file" else ["--port", str((self.door or self.server).port)]
+        if self.name == "file":
+            return ["--file", self.path]
+        return ["--port", ",".join(map(str, self.ports or [(self.door or self.server).port]))]
 
     def words_for(self, *words, worker=0):
         """The words of rme-hold, for this worker or for any."""

@@ -9,6 +9,8 @@ import time
 
 from lib.checks import check, main_in_folders, note, same
 from lib.holds import Door, Way, until, ways
+from lib.servers import HOST
+from lib.storms import free_port
 
 TOLD = 'echo "$RME_LOCK $RME_WORKER $RME_NUMBER $RME_SECTION${RME_AGAIN:+ again}"'
 TELLS = ["bank", "--", "sh", "-c", TOLD]
@@ -269,6 +271,30 @@ def try_broken(folder):
         way.end()
 
 
+def try_several(folder):
+    """Several servers: each that is not there, or that answers nothing, is passed over, also when the connection is made again."""
+    way, dead = Way("state", folder), free_port()
+    with socket.create_server((HOST, 0)) as silent:
+        rows = {
+            "the second one is there": [dead, way.server.port],
+            "the first one is there": [way.server.port, dead],
+            "one that answers nothing": [silent.getsockname()[1], way.server.port],
+        }
+        for number, (name, way.ports) in enumerate(rows.items()):
+            same(name, way.hold(*TELLS), (0, f"bank 0 {number + 1} {number}\n", ""))
+    way.ports = [dead, free_port()]
+    same("none is there", way.hold("-n", *TELLS)[0], 69)
+    way.ports = [way.server.port, dead]
+    first = way.begin("bank", "--", "sh", "-c", "echo inside; sleep 3; echo over", stderr=subprocess.PIPE)
+    same("a command is inside", first.stdout.readline(), "inside\n")
+    way.server.program.kill()
+    way.server.program.wait()
+    way.start(dead)
+    same("it goes on at the next server", (first.wait(20), first.stdout.read(), first.stderr.read()), (0, "over\n", ""))
+    same("it counted once", way.hold(*TELLS), (0, "bank 0 5 4\n", ""))
+    way.end()
+
+
 def try_wrong(folder):
     """Words that are wrong, and what is not there."""
     way = Way("state", folder)
@@ -309,7 +335,7 @@ def try_wrong(folder):
 
 
 WHOLE = try_runs, try_lives, try_failures, try_waits, try_kills, try_any, try_wrong
-BROKEN = try_cut, try_cut_and_killed, try_overtaken, try_started_again, try_broken
+BROKEN = try_cut, try_cut_and_killed, try_overtaken, try_started_again, try_broken, try_several
 
 
 def part():
