@@ -99,7 +99,8 @@ fn write_last_lines<W: Write>(
     drawn: DrawnLines,
 ) -> Result<(), CliFault>
     ensures whole { OnOk result (Appends (W.contents writer.old) (W.contents writer.new) (last_lines_text drawn)) }
-    ensures front { OnErr result (WritesPrefix (W.contents writer.old) (W.contents writer.new) (last_lines_text drawn)) }
+    ensures front { OnErr result (WritesPrefix (W.contents writer.old) (W.contents writer.new)
+        (last_lines_text drawn)) }
 {
     let text = last_lines_text(alloc, drawn)?;
     put_all(writer, text.as_str().as_bytes())?;
@@ -109,7 +110,8 @@ fn write_last_lines<W: Write>(
 /// Writes that the transcript has only this number of lines.
 fn write_no_such_lines<W: Write>(alloc: Global, writer: &mut W, lines: u64) -> Result<(), CliFault>
     ensures whole { OnOk result (Appends (W.contents writer.old) (W.contents writer.new) (no_such_lines_text lines)) }
-    ensures front { OnErr result (WritesPrefix (W.contents writer.old) (W.contents writer.new) (no_such_lines_text lines)) }
+    ensures front { OnErr result (WritesPrefix (W.contents writer.old) (W.contents writer.new)
+        (no_such_lines_text lines)) }
 {
     let text = no_such_lines_text(alloc, lines)?;
     put_all(writer, text.as_str().as_bytes())?;

@@ -152,8 +152,9 @@ impl<B: Backend, D: SpaceDirectory> SpacedBackend<'_, B, D> {
         buffers: &mut Buffers,
     ) -> (SpacedStand<B::Stand, D::Visit>, Result<(), AnswerError>)
         ensures stand { result.0.stand ≡ session.stand }
-        ensures answers { OnOk result.1 (AnswersSpaceOrder (spaced_terms self.now.names.now (D.calls self.now.spaces.now)
-            (B.attached self.now.backend.now)) session order (string_bytes buffers.new.text) result.0) }
+        ensures answers { OnOk result.1 (AnswersSpaceOrder (spaced_terms self.now.names.now
+            (D.calls self.now.spaces.now) (B.attached self.now.backend.now)) session order
+            (string_bytes buffers.new.text) result.0) }
         ensures same { buffers.new.exchange ≡ buffers.old.exchange }
         ensures err { IfErr result.1 (λ why. why ≡ AnswerError.NoMemory) }
     {
