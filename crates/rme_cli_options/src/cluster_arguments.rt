@@ -18,22 +18,16 @@ pub(crate) fn cluster<'a>() -> [ArgumentSpec<'a>; 4] {
             "SECONDS",
             "With etcd:NAME: how long to wait for the cluster, 1 to 1000000; 10 without it",
         ),
-        ArgumentSpec {
-            needs: &["password-file"],
-            ..text_option(
-                "user",
-                "NAME",
-                "With etcd:NAME: the user of the cluster, if it asks for one",
-            )
-        },
-        ArgumentSpec {
-            needs: &["user"],
-            ..text_option(
-                "password-file",
-                "FILE",
-                "With etcd:NAME: the file whose first line is that user's password",
-            )
-        },
+        text_option(
+            "user",
+            "NAME",
+            "With etcd:NAME: the user of the cluster, if it asks for one",
+        ),
+        text_option(
+            "password-file",
+            "FILE",
+            "With etcd:NAME: the file whose first line is that user's password",
+        ),
     ]
 }
 
@@ -49,7 +43,7 @@ pub(crate) fn leader<'a>() -> [ArgumentSpec<'a>; 3] {
             ArgumentValue::Count,
             "quiet",
             "SECONDS",
-            "With etcd:NAME: it takes over when the leader was quiet for so long; 3 without it",
+            "With etcd:NAME: it takes over when the leader was quiet for this time; 3 without it",
         ),
         optional(
             "take",

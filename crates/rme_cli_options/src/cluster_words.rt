@@ -6,7 +6,7 @@ use crate::parsing::{text_of, texts_of};
 use crate::tasks::{EtcdLogin, EtcdPlace, LeaderSetting, MoveDirection, MoveTask};
 use clap::error::ErrorKind;
 use clap::{ArgMatches, Error};
-use std::alloc::{AllocError, Global};
+use std::alloc::Global;
 
 /// What the word for a log begins with.
 const LOG_MARK: &str = "etcd:";
@@ -65,17 +65,19 @@ pub(crate) fn log_place(
 }
 
 /// The user of the cluster, if one was given. Each of the two options requires the other.
-fn login_of(alloc: Global, found: &ArgMatches<'_>) -> Result<Option<EtcdLogin>, AllocError> {
-    let (Some(user), Some(password_file)) = (
+fn login_of(alloc: Global, found: &ArgMatches<'_>) -> Result<Option<EtcdLogin>, Error> {
+    match (
         text_of(alloc, found, "user")?,
         text_of(alloc, found, "password-file")?,
-    ) else {
-        return Ok(None);
-    };
-    Ok(Some(EtcdLogin {
-        user,
-        password_file,
-    }))
+    ) {
+        (Some(user), Some(password_file)) => Ok(Some(EtcdLogin {
+            user,
+            password_file,
+        })),
+        (Some(_), None) => Err(wrong(alloc, help_texts::password_file_wanted())?),
+        (None, Some(_)) => Err(wrong(alloc, help_texts::user_wanted())?),
+        (None, None) => Ok(None),
+    }
 }
 
 /// How a server takes the lead of its log.

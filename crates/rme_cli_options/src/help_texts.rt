@@ -253,6 +253,14 @@ pub fn node_wanted<'a>() -> &'a str {
     "--engine takes HOST:PORT of each node, with commas between, as 10.0.0.1:2379,10.0.0.2:2379"
 }
 
+pub fn password_file_wanted<'a>() -> &'a str {
+    "--user needs --password-file FILE, whose first line is that user's password"
+}
+
+pub fn user_wanted<'a>() -> &'a str {
+    "--password-file needs --user NAME, the user of the cluster whose password it has"
+}
+
 pub fn address_wanted<'a>() -> &'a str {
     "--state etcd:NAME needs --name ADDRESS: where clients reach this server, as db1:7000"
 }

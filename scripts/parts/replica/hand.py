@@ -100,17 +100,29 @@ def try_words(_folder):
         (["--state", "bank.state", *name, *more], b"--name"),
         ([*place, *engine, *name, "--sync", "always", *more], b"--sync"),
         ([*place, *engine, *name, "--sync", "never", *more], b"--sync"),
-        ([*place, *engine, *name, "--user", "rme", *more], b"rme serve"),
-        ([*place, *engine, *name, "--password-file", "f", *more], b"rme serve"),
+        ([*place, *engine, *name, "--user", "rme", *more], b"--user needs --password-file"),
+        ([*place, *engine, *name, "--password-file", "f", *more], b"--password-file needs --user"),
         ([*place, *engine, *name, "--patience", "0", *more], b"--patience"),
         ([*place, *engine, *name, "--quiet", "none", *more], b"--quiet"),
         ([*place, "--engine", "127.0.0.1", *name, *more], b"--engine"),
         ([*place, "--engine", "127.0.0.1:99999", *name, *more], b"--engine"),
         ([*place, "--engine", "127.0.0.1:1,", *name, *more], b"--engine"),
     ):
-        status, printed, told = end_of(["serve", *words])
-        same(f"status 2: {' '.join(words)[:80]}", (status, printed), (2, b""))
-        check(f"it names {named.decode()}", named in told, told)
+        is_refused("serve", words, named)
+    for command, words in ("look", [f"etcd:{LOG}"]), ("move", ["bank.state", f"etcd:{LOG}"]):
+        for more, named in (
+            ([], b"--engine"),
+            ([*engine, "--user", "rme"], b"--user needs --password-file"),
+            ([*engine, "--password-file", "f"], b"--password-file needs --user"),
+            ([*engine, *name], b"--name"),
+        ):
+            is_refused(command, [*words, *more], named)
+
+
+def is_refused(command, words, named):
+    status, printed, told = end_of([command, *words])
+    same(f"status 2: {command} {' '.join(words)[:80]}", (status, printed), (2, b""))
+    check(f"it names {named.decode()}", named in told, told)
 
 
 def try_damage(folder):
