@@ -24,10 +24,16 @@ def without_state():
     return serve_without_state(workers=WORKERS, locks=LOCKS, jobs=1000)
 
 
+def ports_of(server):
+    """The value of `--port` for a server, for the port of one, or for several of these."""
+    if isinstance(server, (list, tuple)):
+        return ",".join(map(ports_of, server))
+    return str(server if isinstance(server, int) else server.port)
+
+
 def ask(server, *words, **how):
     """Runs `rme ask` to its end: its status, and what it wrote to the standard output and to the standard error."""
-    place = ["--port", server if isinstance(server, int) else server.port]
-    ran = programs.run(["ask", *place, *words], **how)
+    ran = programs.run(["ask", "--port", ports_of(server), *words], **how)
     return ran.returncode, ran.stdout.decode(), ran.stderr.decode()
 
 

@@ -14,7 +14,7 @@ name_line name = escaped_text name ++ codes "\n"
 abbrev pub space_line : String Global → List ℕ
 space_line space = name_line (string_bytes space)
 
--- the name behind which the next page begins: the last one, where there are more
+-- the name behind which the next page begins: the last one, if more names follow
 abbrev pub IsNextStart : SpacesPage → Option (String Global) → Type 0
 IsNextStart page None = page.more ≡ false
 IsNextStart page (Some last) =

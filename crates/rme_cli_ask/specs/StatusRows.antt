@@ -15,7 +15,7 @@ pub use Rattle.rme_cli_ask.specs.Tables.{row_view, rows_view}
 use Rattle.rme_cli_ask.specs.Tables.{lock_table, numbered_rows, table_text}
 use Rattle.rme_cli_messages.specs.EscapedTexts.{escaped_text}
 
--- a number, or this text for none
+-- a number, or this text for `None`
 abbrev pub number_or : List ℕ → Option ℕ → List ℕ
 number_or nothing None = nothing
 number_or nothing (Some number) = decimal number
@@ -32,7 +32,7 @@ attached_or_not (Some worker) = worker.attached
 abbrev pub has_session : List ReportedWorker → ℕ → Bool
 has_session workers number = attached_or_not (slice_get workers number)
 
--- `held` where a session has the owner, else `DEAD`
+-- `held` if a session has the owner, else `DEAD`
 abbrev pub owner_state : List ReportedWorker → Option ℕ → List ℕ
 owner_state workers None = codes "-"
 owner_state workers (Some owner) = if has_session workers owner then codes "held" else codes "DEAD"
@@ -83,7 +83,7 @@ abbrev pub lock_or_nothing : Option (String Global) → List ℕ
 lock_or_nothing None = codes "-"
 lock_or_nothing (Some lock) = string_bytes lock
 
--- how long a stance is as it is
+-- the time since a stance changed
 abbrev pub since_text : Option ℕ → List ℕ
 since_text None = codes "-"
 since_text (Some seconds) = age_text seconds

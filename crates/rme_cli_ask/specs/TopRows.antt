@@ -7,13 +7,13 @@ use Rattle.rme_cli_ask.specs.StatusRows.{number_or, owner_state, owner_cell, sin
 pub use Rattle.rme_cli_ask.specs.Tables.{row_view, rows_view}
 use Rattle.rme_cli_ask.specs.Tables.{numbered_rows}
 
--- the seconds since the stance of an owner changed, where the server tells them
+-- the seconds since the stance of an owner changed, if the server tells them
 abbrev pub owner_seconds : List ReportedWorker → Option ℕ → Option ℕ
 owner_seconds workers owner =
     option_and_then (λ worker. worker.seconds) (option_and_then (λ number. slice_get workers number) owner)
 
--- the jobs a second between two numbers of finished sections, this number of milliseconds apart; none where no time
--- passed, or where the jobs in a thousand seconds have no 64 bits
+-- the jobs a second between two numbers of finished sections, this number of milliseconds apart; `None` if no time
+-- passed, or if the jobs in a thousand seconds exceed 64 bits
 abbrev pub jobs_per_second : ℕ → ℕ → ℕ → Option ℕ
 jobs_per_second before after millis =
     if millis == 0 || nat_le (2 ^ 64) ((after - before) * 1000) then None else Some ((after - before) * 1000 / millis)
@@ -35,7 +35,7 @@ abbrev pub top_header : List (List ℕ)
 top_header =
     codes "LOCK" ∷ codes "OWNER" ∷ codes "STATE" ∷ codes "SINCE" ∷ codes "WAITING" ∷ codes "JOBS/S" ∷ []
 
--- a row for each lock, below a header; the rates are those since the locks were as before, this long ago
+-- a row for each lock, below a header; the rates are those since the locks were as before, some milliseconds ago
 abbrev pub top_rows : ServerStatus → List ReportedLock → Option ℕ → List (List (List ℕ))
 top_rows status before millis =
     top_header ∷ numbered_rows (top_row status.workers.items before millis) 0 status.locks.items

@@ -1,4 +1,4 @@
-//! Finishing the pending job of a worker whose client will not come back.
+//! Finishing the pending job of a worker whose client is gone.
 
 ghost use Rattle.std.specs.Prelude.{◌≡◌, ◌+◌, ◌<◌, ◌↔◌, ℕ, IsTrue, Some};
 ghost use Rattle.rme_cli_ask.specs.Waits.{milliseconds_left};
@@ -153,7 +153,7 @@ impl<R: Source + Drop, W: Sink + Drop, O: Sink + Drop, E: Sink + Drop> Dialogue<
         }
     }
 
-    /// Says on the standard error that the job waits, and names the owner of the lock where the server has look-ups.
+    /// Says on the standard error that the job waits, and names the owner of the lock if the server has look-ups.
     fn tell_waiting(&mut self, attempt: &Attempt) -> Result<(), AskFault> {
         let lock = attempt.job.lock.as_str();
         let owner = self.owner_of(lock)?;
@@ -205,7 +205,7 @@ fn job_text(alloc: Global, worker: u32, job: &ReportedJob) -> Result<String, All
     format!(in alloc; "worker {worker} {at} lock {lock} with job {number}, script {script}\n")
 }
 
-/// The text of a job that waits for its lock, with the lock's owner where it is known.
+/// The text of a job that waits for its lock, with the lock's owner if it is known.
 fn waiting_text(
     alloc: Global,
     attempt: &Attempt,

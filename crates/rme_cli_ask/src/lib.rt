@@ -6,7 +6,7 @@
 //! for the explanations of refusals. Its one call is `run_ask`. Its contracts: a look-up shows the tables of what the
 //! answer says (`specs/LookUps.antt`), with a row for each lock and each worker (`specs/StatusRows.antt`,
 //! `specs/TopRows.antt`), a list of spaces has a line for each (`specs/SpaceLines.antt`), and the exit status is 0
-//! exactly if what was asked for was done. Begin with `run.rt`, then `finish.rt`.
+//! exactly if what was asked for was done. Begin with `run.rt`, then `finish.rt`; `servers.rt` chooses the server.
 #![tactic(auto)]
 
 mod age;
@@ -22,6 +22,7 @@ mod refusals;
 mod rows;
 mod run;
 mod secret;
+mod servers;
 mod spaces;
 mod status_rows;
 mod table;

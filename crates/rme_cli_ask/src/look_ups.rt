@@ -1,4 +1,4 @@
-//! Look-ups and what is done to a space: one request, and its answer as tables and sentences or as it came.
+//! Look-ups and requests about spaces: one request, and its answer as tables and sentences, or as the server's line.
 
 ghost use Rattle.std.specs.Prelude.{◌≡◌, ◌≢◌, IfErr, IfOk, string_bytes};
 ghost use Rattle.serde_json.specs.View.{view};

@@ -4,7 +4,7 @@
 /// and the user is told the owner of the lock.
 const ROUND: u32 = 5_000;
 
-/// The milliseconds to wait that are left, or as long as it takes.
+/// The milliseconds that are left of a wait; `None` for a wait without a limit.
 #[derive(Clone, Copy)]
 pub(crate) struct RemainingPatience {
     left: Option<u64>,
@@ -14,7 +14,7 @@ impl RemainingPatience {
     ghost use Rattle.std.specs.Prelude.{◌≡◌, ◌≤◌, ◌↔◌, IsTrue};
     ghost use Rattle.rme_cli_ask.specs.Waits.{milliseconds, milliseconds_after, milliseconds_left, round_of};
 
-    /// This number of seconds, or as long as it takes.
+    /// A wait of this number of seconds; `None` for a wait without a limit.
     pub(crate) fn of(seconds: Option<u32>) -> RemainingPatience
         ensures { milliseconds_left result ≡ milliseconds seconds }
     {

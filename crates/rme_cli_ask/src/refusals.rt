@@ -1,4 +1,4 @@
-//! The text of a refusal: its name, its explanation, and what to do here.
+//! The text of a refusal: its name, its explanation, and a hint for the request.
 
 use crate::ask_end::AskFault;
 use crate::dialogue::Dialogue;
@@ -15,7 +15,7 @@ const BAD_LINE: u64 = 1;
 const BAD_SHAPE: u64 = 5;
 
 /// The number of `Busy`.
-const BUSY: u64 = 9;
+pub(crate) const BUSY: u64 = 9;
 
 /// The number of `NoSpace`.
 const NO_SPACE: u64 = 23;

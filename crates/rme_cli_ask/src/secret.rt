@@ -33,8 +33,8 @@ pub(crate) fn read_secret(rt: &HostRuntime, path: &str) -> Result<String, Secret
 }
 
 impl<R: Source + Drop, W: Sink + Drop, O: Sink + Drop, E: Sink + Drop> Dialogue<R, W, O, E> {
-    /// Begins with a secret, if there is one. Answers whether the server took it; a refusal is explained on the standard
-    /// error.
+    /// Sends the secret, if one was given. Answers whether the server accepted it; a refusal is explained on the
+    /// standard error.
     pub(crate) fn begin(&mut self, secret: &Option<String>) -> Result<bool, AskFault> {
         let Some(secret) = secret else {
             return Ok(true);

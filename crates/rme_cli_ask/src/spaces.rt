@@ -26,7 +26,7 @@ struct ShownPage {
 }
 
 impl<R: Source + Drop, W: Sink + Drop, O: Sink + Drop, E: Sink + Drop> Dialogue<R, W, O, E> {
-    /// Works in a space, if there is one. Answers whether the server took it; a refusal is explained on the standard
+    /// Uses the space, if one was given. Answers whether the server accepted it; a refusal is explained on the standard
     /// error.
     pub(crate) fn use_space(&mut self, space: &Option<String>) -> Result<bool, AskFault> {
         let Some(space) = space else {

@@ -12,7 +12,7 @@ use rme_ask_client::{CellsAnswer, ReportedLock, ReportedStance, ReportedWorker, 
 use rme_cli_messages::escape_controls;
 use std::alloc::{AllocError, Global};
 
-/// The cell of what there is not.
+/// The cell of a value that is missing.
 pub(crate) const NOTHING: &str = "-";
 
 /// The tables of locks and of workers.
@@ -137,7 +137,7 @@ impl RowOf<ReportedWorker> for WorkerView {
     }
 }
 
-/// A number, or this text for none.
+/// A number, or this text for `None`.
 pub(crate) fn number_or(
     alloc: Global,
     number: Option<u64>,
@@ -151,7 +151,7 @@ pub(crate) fn number_or(
     }
 }
 
-/// How long a stance is as it is, where the server tells it.
+/// The time since a stance changed, if the server tells it.
 pub(crate) fn since_text(alloc: Global, seconds: Option<u64>) -> Result<String, AllocError>
     ensures { IfOk result (λ text. string_bytes text ≡ spec.since_text seconds) }
 {

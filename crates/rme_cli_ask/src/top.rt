@@ -37,15 +37,16 @@ struct Sample {
 }
 
 impl<R: Source + Drop, W: Sink + Drop, O: Sink + Drop, E: Sink + Drop> Dialogue<R, W, O, E> {
-    /// Prints a table of the locks each second, until it is interrupted or the server is gone.
+    /// Prints a table of the locks each second, until it is interrupted or the server is gone. `made` is the number of
+    /// tables, with those of earlier sessions.
     pub(crate) fn top<P: Wait>(
         &mut self,
         rt: &HostRuntime,
         threads: &P,
         view: TopView,
+        made: &mut u32,
     ) -> Result<AskEnd, AskFault> {
         let mut last = None;
-        let mut made: u32 = 0;
         for _ in threads.forever() {
             let Some(value) = self.accepted(ClientRequest::Status)? else {
                 return Ok(AskEnd::Refused);
@@ -57,12 +58,13 @@ impl<R: Source + Drop, W: Sink + Drop, O: Sink + Drop, E: Sink + Drop> Dialogue<
                     status: server_status(self.alloc, &value)?,
                     at: Instant::now(rt).ok(),
                 };
-                let text = sample_text(self.alloc, view, &last, &sample)?;
+                let mut text = separator(self.alloc, view, *made)?;
+                push_sample(&mut text, self.alloc, &last, &sample)?;
                 self.console.print(text.as_str())?;
                 last = Some(sample);
             }
-            made = made.saturating_add(1);
-            if view.count.is_some_and(|count| made >= count) {
+            *made = made.saturating_add(1);
+            if view.count.is_some_and(|count| *made >= count) {
                 break;
             }
             thread::sleep(rt, Duration::from_millis(PAUSE));
@@ -71,33 +73,38 @@ impl<R: Source + Drop, W: Sink + Drop, O: Sink + Drop, E: Sink + Drop> Dialogue<
     }
 }
 
-/// The table of a sample, with the jobs a second since the last one, and what separates the two.
-fn sample_text(
+/// What separates a table from this number of earlier ones.
+fn separator(alloc: Global, view: TopView, made: u32) -> Result<String, AllocError> {
+    let text = if view.is_terminal {
+        CLEAR
+    } else if made > 0 {
+        "\n"
+    } else {
+        ""
+    };
+    String::from_str(alloc, text)
+}
+
+/// Appends the table of a sample, with the jobs a second since the last one of the session.
+fn push_sample(
+    out: &mut String,
     alloc: Global,
-    view: TopView,
     last: &Option<Sample>,
     sample: &Sample,
-) -> Result<String, AllocError> {
-    let mut text = String::new(alloc);
-    if view.is_terminal {
-        text.push_str(CLEAR)?;
-    } else if last.is_some() {
-        text.push_str("\n")?;
-    }
+) -> Result<(), AllocError> {
     match last {
         Some(last) => {
             let millis = millis_between(last.at, sample.at);
             push_top(
-                &mut text,
+                out,
                 alloc,
                 &sample.status,
                 last.status.locks.as_slice(),
                 millis,
-            )?;
+            )
         }
-        None => push_top(&mut text, alloc, &sample.status, &[], None)?,
+        None => push_top(out, alloc, &sample.status, &[], None),
     }
-    Ok(text)
 }
 
 /// Appends the table of the locks, with the jobs a second since they were as before, this number of milliseconds ago.
@@ -179,7 +186,7 @@ impl<'a> TopLocks<'a> {
     }
 }
 
-/// The seconds since the stance of an owner changed, where the server tells them.
+/// The seconds since the stance of an owner changed, if the server tells them.
 fn owner_seconds(owner: Option<u64>, workers: &[ReportedWorker]) -> Option<u64>
     ensures { result ≡ spec.owner_seconds workers.now owner }
 {

@@ -39,6 +39,8 @@ pub(crate) enum ArgumentKind<'a> {
     Option(&'a str),
     /// An option whose values are separated by commas; help names them like this.
     List(&'a str),
+    /// An option that may be given several times, each time with a value, which help names like this.
+    Repeated(&'a str),
     /// An argument.
     Argument,
     /// At least this number of arguments.
@@ -51,6 +53,8 @@ pub(crate) enum ArgumentValue {
     Text,
     Number,
     Port,
+    /// The port of a server that listens, 1 to 65535.
+    ServerPort,
     /// 1 to 1000000.
     Count,
     /// The number of a line, 1 to 4294967295.
@@ -180,6 +184,11 @@ fn given<'a>(arg: Arg<'a>, word: &ArgumentSpec<'a>) -> Arg<'a> {
         ArgumentKind::Flag(letter) => arg.long(word.name).short(letter).action(ArgAction::SetTrue),
         ArgumentKind::Option(value) => arg.long(word.name).value_name(value).action(ArgAction::Set),
         ArgumentKind::List(value) => listed(arg.long(word.name).value_name(value)),
+        ArgumentKind::Repeated(value) => {
+            arg.long(word.name)
+                .value_name(value)
+                .action(ArgAction::Append)
+        }
         ArgumentKind::Argument => arg.action(ArgAction::Set),
         ArgumentKind::Arguments(least) => arg.action(ArgAction::Append).num_args(least..),
     }
@@ -196,6 +205,7 @@ fn valued(arg: Arg<'_>, value: ArgumentValue) -> Arg<'_> {
         ArgumentValue::Text => arg,
         ArgumentValue::Number => arg.value_parser(value_parser!(u32)),
         ArgumentValue::Port => arg.value_parser(value_parser!(u16)),
+        ArgumentValue::ServerPort => arg.value_parser(value_parser!(u16).range(1..=65_535)),
         ArgumentValue::Count => arg.value_parser(value_parser!(u32).range(1..=1_000_000)),
         ArgumentValue::Line => arg.value_parser(value_parser!(u64).range(1..=4_294_967_295)),
         ArgumentValue::Sync => arg.value_parser(SYNCS),

@@ -9,17 +9,17 @@ pub(crate) fn server<'a>() -> [ArgumentSpec<'a>; 5] {
     [
         ArgumentSpec {
             conflicts: &["socket"],
-            ..option_of(
-                ArgumentValue::Port,
+            value: ArgumentValue::ServerPort,
+            ..optional(
                 "port",
-                "N",
-                "The port of the server, on 127.0.0.1; 7000 without it",
+                ArgumentKind::List("PORTS"),
+                "The port of the server, on 127.0.0.1, or ports with commas between, tried in turn; 7000 without it",
             )
         },
-        text_option(
+        optional(
             "socket",
-            "PATH",
-            "The Unix socket of the server, in place of the port",
+            ArgumentKind::Repeated("PATH"),
+            "The Unix socket of the server, in place of the port; several of these options are tried in turn",
         ),
         text_option(
             "key-file",
@@ -68,7 +68,7 @@ pub(crate) fn of_top_and_create<'a>() -> [ArgumentSpec<'a>; 3] {
             ArgumentValue::Count,
             "count",
             "N",
-            "top: ends after so many tables, 1 to 1000000",
+            "top: ends after this number of tables, 1 to 1000000",
         ),
         option_of(
             ArgumentValue::Number,
@@ -85,7 +85,7 @@ pub(crate) fn of_top_and_create<'a>() -> [ArgumentSpec<'a>; 3] {
     ]
 }
 
-/// What is asked, and of what.
+/// The request, and its names.
 pub(crate) fn words<'a>() -> [ArgumentSpec<'a>; 3] {
     [
         ArgumentSpec {

@@ -16,7 +16,7 @@ pub(crate) fn ask_task(alloc: Global, found: &ArgMatches<'_>) -> Result<AskTask,
         AnswerForm::Text
     };
     Ok(AskTask {
-        server: server_address(alloc, found)?,
+        servers: server_addresses(alloc, found)?,
         key_file: text_of(alloc, found, "key-file")?,
         space: text_of(alloc, found, "space")?,
         request: ask_request(alloc, found)?,
@@ -24,15 +24,31 @@ pub(crate) fn ask_task(alloc: Global, found: &ArgMatches<'_>) -> Result<AskTask,
     })
 }
 
-/// The address of the server that is asked.
-fn server_address(alloc: Global, found: &ArgMatches<'_>) -> Result<ServerAddress, AllocError> {
-    match text_of(alloc, found, "socket")? {
-        Some(path) => Ok(ServerAddress::Socket(path)),
-        None => {
-            let port = found.get_one::<u16>("port").unwrap_or(USUAL_PORT);
-            Ok(ServerAddress::Port(port))
-        }
+/// The addresses of the server that is asked, in the order in which they are tried; at least one.
+fn server_addresses(
+    alloc: Global,
+    found: &ArgMatches<'_>,
+) -> Result<Vec<ServerAddress>, AllocError> {
+    let mut servers = Vec::new(alloc);
+    for path in texts_of(alloc, found, "socket")? {
+        servers.push(ServerAddress::Socket(path))?;
     }
+    if servers.is_empty() {
+        push_ports(&mut servers, found)?;
+    }
+    Ok(servers)
+}
+
+/// Appends the ports that were given, or the default one. Each was parsed before, as a port.
+fn push_ports(servers: &mut Vec<ServerAddress>, found: &ArgMatches<'_>) -> Result<(), AllocError> {
+    let Some(ports) = found.get_many::<u16>("port") else {
+        servers.push(ServerAddress::Port(USUAL_PORT))?;
+        return Ok(());
+    };
+    for port in ports {
+        servers.push(ServerAddress::Port(port.unwrap_or(USUAL_PORT)))?;
+    }
+    Ok(())
 }
 
 /// What the server is asked.

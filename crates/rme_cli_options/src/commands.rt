@@ -202,7 +202,7 @@ fn threads_arguments<'a>() -> [ArgumentSpec<'a>; 4] {
             ..optional(
                 "FALL",
                 ArgumentKind::Arguments(0),
-                "Each worker falls after so many own steps; the numbers rise",
+                "Each worker falls after this number of own steps; the numbers rise",
             )
         },
         optional(

@@ -602,6 +602,14 @@ finish, in a space alone, which --space names, and else refuses them (23 NoSpace
   rme ask create team-7 bank --workers 20
   rme ask --space team-7 status
 
+Of several servers over one log in a cluster one leads, and the others refuse connections or answer nothing. With the
+addresses of all they are tried in turn, each for its share of 10 seconds, and the first that answers is asked:
+
+  rme ask --port 7001,7002 status
+
+If none answers, the standard error says why of each. Where `top` loses its server it goes on with the next that
+answers.
+
 With --space all is asked in that space, lines too. The name of a space has 1 to 64 of a-z 0-9 _ -. One that is there
 with the same workers, cells and locks is created again without a change; with others it is refused (24
 SpaceDiffers). One that a session uses, or in which a job is pending, is not dropped (9 Busy). A key creates and drops
@@ -610,5 +618,5 @@ only where its SPACES begin with + (25 NotAllowed).
 Status: 0; 1 where the server refused, which is explained on the standard error, ended the session or answered
 what is no answer, and where a job still waits after --wait; 2 for words that are refused; 3 where the
 standard input or the file of --key-file can't be read, 4 where writing failed, 5 where memory ran out, 6 where
-no server listens. Of lines the answers say what was refused, and the status is 0 at the end of the input."
+no server is there. Of lines the answers say what was refused, and the status is 0 at the end of the input."
 }

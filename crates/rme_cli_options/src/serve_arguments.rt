@@ -58,7 +58,7 @@ pub(crate) fn addresses<'a>() -> [ArgumentSpec<'a>; 3] {
     ]
 }
 
-/// Where it keeps what it did.
+/// The file of its state, or the folder of its spaces.
 pub(crate) fn files<'a>() -> [ArgumentSpec<'a>; 3] {
     [
         text_option(
@@ -83,7 +83,7 @@ pub(crate) fn files<'a>() -> [ArgumentSpec<'a>; 3] {
     ]
 }
 
-/// How it keeps it, with a state or spaces.
+/// How a state is kept: its syncs, its waiting jobs and its checkpoints.
 pub(crate) fn policies<'a>() -> [ArgumentSpec<'a>; 3] {
     [
         option_of(
@@ -102,12 +102,12 @@ pub(crate) fn policies<'a>() -> [ArgumentSpec<'a>; 3] {
             ArgumentValue::Count,
             "sections",
             "N",
-            "FILE is renewed after so many finished jobs, 1 to 1000000; 100000 without it",
+            "FILE is renewed after this number of finished jobs, 1 to 1000000; 100000 without it",
         ),
     ]
 }
 
-/// Whom it serves, and for how long.
+/// The sessions that it serves: their number, their time and their keys.
 pub(crate) fn sessions<'a>() -> [ArgumentSpec<'a>; 4] {
     [
         ArgumentSpec {

@@ -36,7 +36,7 @@ pub enum LineTask {
     Transcript(Diagnostics),
     /// Check the transcript on the standard input.
     Check,
-    /// Explain these words or, if there are none, list all.
+    /// Explain these words; without words list all.
     Explain(Vec<String>),
 }
 
@@ -202,7 +202,7 @@ pub struct DurableServeTask {
     pub log: ServerLog,
     /// The file of its keys, if its sessions need one.
     pub keys: Option<String>,
-    /// The words for the names of its locks; if there are none, those of the state.
+    /// The words for the names of its locks; an empty list stands for the names in the state.
     pub locks: Vec<String>,
 }
 
@@ -274,7 +274,8 @@ pub enum OutputFormat {
 /// The request of `rme ask`.
 #[derive(Drop)]
 pub struct AskTask {
-    pub server: ServerAddress,
+    /// The addresses of the server, in the order in which they are tried; at least one.
+    pub servers: Vec<ServerAddress>,
     /// The file with the secret of the client's key, if it has one.
     pub key_file: Option<String>,
     /// The space in which it asks, if one was named.
@@ -340,7 +341,7 @@ pub struct FinishTask {
     pub worker: u32,
     /// Whether the worker is also taken from a session that has it.
     pub takes_over: bool,
-    /// The number of seconds to wait for the lock; as long as it takes if there is none.
+    /// The number of seconds to wait for the lock; `None` waits without a limit.
     pub seconds: Option<u32>,
     /// Whether a job that waits for its lock is withdrawn.
     pub withdraws: bool,

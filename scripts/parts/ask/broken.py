@@ -1,11 +1,14 @@
 """No server, servers that end in the middle, and malformed answers: each is reported, and nothing is made up."""
 
+import os
+import socket
 import subprocess
+import time
 
 from lib.asks import StandIn, ask, enter, free_port, leave, with_state
 from lib.checks import check, main_in_folders, same
 from lib.programs import built, ends_with, run
-from lib.servers import Server, words_of
+from lib.servers import HOST, Server, words_of
 
 ATTACH = b'{"number":1,"ok":"attach","stance":"held"}\n'
 PENDING = b'{"lock":"bank","number":1,"ok":"pending","script":[],"stance":"held"}\n'
@@ -23,6 +26,54 @@ def try_no_server(folder):
     check("a path that steers no terminal", status == 6 and b"\x1b" not in why, why)
     status, _, why = ends_with(run(["ask", "--socket", "x" * 200, "ping"]))
     check("a path that is too long", status == 6 and why, why)
+
+
+def try_several(folder):
+    """Of several servers the first that answers is asked. If none does, the standard error says why of each."""
+    path = os.path.join(folder, "socket")
+    server, dead = with_state(folder, "--socket", path), free_port()
+    free = "LOCK  OWNER\nbank  nobody\n"
+    for name, ports in {"the second one": (dead, server), "the first one": (server, dead), "the last one": (dead, dead, server)}.items():
+        same(f"{name} is there", ask(ports, "owner", "bank"), (0, free, ""))
+    words = [word for place in (f"{folder}/no-socket", path) for word in ("--socket", place)]
+    same("sockets", ends_with(run(["ask", *words, "owner", "bank"])), (0, free.encode(), b""))
+    full = Server(words=words_of(without="connections", at_once=1))
+    first = full.session()
+    first.attach(0)
+    same("one that has no room", ask((full, server), "owner", "bank"), (0, free, ""))
+    status, told, why = ask((dead, full), "owner", "bank")
+    known = f"\n  port {dead}: " in why and f"\n  port {full.port}: " in why
+    check("nor is there another", (status, told) == (6, "") and known, (status, told, why))
+    first.close()
+    full.kill()
+    other = StandIn(b"HTTP/1.1 400 Bad Request\n")
+    same("another program", ask((other, server), "owner", "bank"), (0, free, ""))
+    other.end()
+    with socket.create_server((HOST, 0)) as silent:  # a connection is made, and nothing is answered
+        began = time.monotonic()
+        same("one that answers nothing", ask((silent.getsockname()[1], server), "owner", "bank"), (0, free, ""))
+        check("for half of ten seconds", 4 < time.monotonic() - began < 9, time.monotonic() - began)
+    server.kill()
+
+
+def try_none(folder):
+    ports = free_port(), free_port()
+    status, told, why = ask(ports, "ping")
+    known = all(f"\n  port {port}: " in why for port in ports) and "rme serve --state FILE LOCK" in why
+    check("no port", (status, told) == (6, "") and why.startswith("fault: no server lets this client in\n") and known, (status, told, why))
+    words = [word for name in ("no-socket", "a\x1bb") for word in ("--socket", os.path.join(folder, name))]
+    status, told, why = ends_with(run(["ask", *words, "ping"]))
+    known = f"\n  {folder}/no-socket: ".encode() in why and b"\\u{1b}b: " in why
+    check("no socket", (status, told) == (6, b"") and known and b"\x1b" not in why, (status, told, why))
+
+
+def try_ping(_folder):
+    """Each of several servers is sent a ping, and whatever it answers but 9, it is asked."""
+    for name, answer in {"a ping": b'{"ok":"ping"}\n', "a refusal": b'{"code":25,"error":"NotAllowed"}\n'}.items():
+        server = StandIn(answer, b'{"ok":"owner","owner":0}\n')
+        told = ask((free_port(), server), "owner", "bank")
+        same(f"{name}: what is sent", server.end(), [b'{"do":"ping"}\n', b'{"do":"owner","lock":"bank"}\n'])
+        same(f"{name}: what is told", told, (0, "LOCK  OWNER\nbank  0\n", ""))
 
 
 def try_full(_folder):
@@ -104,4 +155,5 @@ def try_requests(_folder):
 
 
 def part():
-    main_in_folders(try_no_server, try_full, try_killed, try_answers, try_requests, minutes=3)
+    groups = try_no_server, try_several, try_none, try_ping, try_full, try_killed, try_answers, try_requests
+    main_in_folders(*groups, minutes=4)

@@ -2,7 +2,7 @@
 
 import os
 
-from lib.asks import ask
+from lib.asks import ask, free_port
 from lib.checks import check, main_in_folders, same
 from lib.keys import KINDS, key_line, put, put_keys, serve
 from lib.programs import ends_with, run
@@ -27,6 +27,8 @@ def try_right(folder):
         for name, held in files.items():
             told = ask(server, *secret_in(folder, held), "ping")
             same(f"{kind}: a file with {name}", told, (0, "the server answers\n", ""))
+        told = ask((free_port(), server), *secret_in(folder, b"apple\n"), "ping")
+        same(f"{kind}: the second of two servers", told, (0, "the server answers\n", ""))
         told = ends_with(run(["ask", "--socket", server.path, "ping", *secret_in(folder, b"apple\n")]))
         same(f"{kind}: over a Unix socket", told, (0, b"the server answers\n", b""))
         lines = b'{"do":"attach","worker":3}\n{"do":"hello","secret":"apple"}\n'

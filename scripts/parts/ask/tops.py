@@ -8,7 +8,7 @@ import signal
 import subprocess
 import time
 
-from lib.asks import ask, enter, leave_inside, still, with_state
+from lib.asks import ask, enter, leave_inside, ports_of, still, with_state
 from lib.checks import check, main_in_folders, same
 from lib.programs import built
 
@@ -97,12 +97,42 @@ def try_gone(folder):
     check("the server is gone", top.returncode == 1 and why.startswith("rme: the "), (top.returncode, why))
 
 
-def begin(server):
-    words = [built(), "ask", "--port", str(server.port), "top"]
+def try_next(folder):
+    """Of two servers the first is killed: the tables go on with the second, up to their count. When that is killed too, `top` ends
+    after some time."""
+    servers = [two_locks(os.path.join(folder, name)) for name in ("first", "second")]
+    top = begin(servers, "--count", "4")
+    table = [top.stdout.readline() for _ in range(3)]
+    servers[0].program.kill()
+    told, why = top.communicate(timeout=30)
+    wanted = "\n".join(["".join(table)] * 4)
+    same("four tables", (top.returncode, without_rates("".join(table) + told), why), (0, without_rates(wanted), ""))
+    top = begin(servers)
+    top.stdout.readline()
+    servers[1].program.kill()
+    killed = time.monotonic()
+    _, why = top.communicate(timeout=60)
+    known = all(f"\n  port {server.port}: " in why for server in servers)
+    check("no server is there", top.returncode == 6 and known, (top.returncode, why))
+    check("it was waited for", 5 < time.monotonic() - killed < 30, time.monotonic() - killed)
+
+
+def two_locks(folder):
+    os.mkdir(folder)
+    return with_state(folder)
+
+
+def without_rates(tables):
+    """The tables of free locks without the jobs a second, which a first table does not have."""
+    return re.sub(r" [-0]\n", " ?\n", tables)
+
+
+def begin(server, *words):
+    words = [built(), "ask", "--port", ports_of(server), "top", *words]
     return subprocess.Popen(words, stdin=subprocess.DEVNULL, stdout=subprocess.PIPE, stderr=subprocess.PIPE, text=True)
 
 
 def part():
     # If this is run in the background, the shell has it ignore what Ctrl-C sends.
     signal.signal(signal.SIGINT, signal.default_int_handler)
-    main_in_folders(try_count, try_rate, try_terminal, try_gone, minutes=3)
+    main_in_folders(try_count, try_rate, try_terminal, try_gone, try_next, minutes=4)

@@ -157,15 +157,21 @@ def try_wrong_words(_folder):
         "a wait that is no number": ["finish", "0", "--wait", "long"],
         "a count of another word": ["status", "--count", "1"],
         "a count of 0": ["top", "--count", "0"],
-        "two addresses": ["--port", "1", "--socket", "x", "ping"],
-        "an invalid port": ["--port", "70000", "ping"],
+        "a port and a socket": ["--port", "1", "--socket", "x", "ping"],
+        "two lists of ports": ["--port", "1", "--port", "2", "ping"],
     }
     for name, words in rows.items():
         ended = run(["ask", *words])
         check(name, (ended.returncode, ended.stdout) == (2, b"") and ended.stderr, ended)
+    for ports in ("", "0", "70000", "bank", ",", "7000,", ",7000", "7000,,7001", "7000,0", "7000,70000", "7000,bank", "7000, 7001"):
+        status, told, why = ends_with(run(["ask", "--port", ports, "ping"]))
+        check(f"the ports {ports!r}", (status, told) == (2, b"") and b"invalid value" in why and b"--port" in why, (status, told, why))
     told = run(["ask", "--help"])
     check("help", told.returncode == 0 and b"rme ask finish WORKER" in told.stdout, told)
-    same("a socket of no name", ends_with(run(["ask", "--socket", "", "ping"]))[0], 2)
+    for sockets in [[""], ["no-socket", ""]]:
+        words = [word for path in sockets for word in ("--socket", path)]
+        status, told, why = ends_with(run(["ask", *words, "ping"]))
+        check(f"the sockets {sockets}", (status, told) == (2, b"") and b"--socket" in why, (status, told, why))
 
 
 def part():

@@ -158,6 +158,8 @@ def try_completions(folder):
         ("ask", "--key"): ["--key-file"],
         ("ask", "--sp"): ["--space"],
         ("ask", "--space", ""): [],
+        ("ask", "--port", ""): [],
+        ("ask", "--socket", "one"): ["one.state"],
         ("ask", "--key-file", "one"): ["one.state"],
         ("serve", "--port", ""): [],
         ("serve", "--port", "7000", "--wo"): ["--workers"],

@@ -3,14 +3,19 @@ that is stopped by a signal, or cut off from the cluster, while another takes ov
 
 import os
 import statistics
+import subprocess
+import sys
 import threading
 import time
 
+from lib.asks import ask, ports_of
 from lib.checks import check, same
 from lib.clusters import Cluster, main_with_etcd
 from lib.gateways import Gateway
+from lib.holds import environment
 from lib.orders import LAST, ONE, STATUS, attach, job
-from lib.replicas import Replica, Worker, log_faults, looked, status_in
+from lib.programs import built
+from lib.replicas import Replica, Worker, log_faults, status_in
 from lib.servers import line_of
 
 QUIET, SLACK = 1, 1.5  # seconds
@@ -124,6 +129,47 @@ def try_take_busy(folder):
         same("the log", log_faults(cluster), [])
 
 
+# ---- programs that have the addresses of both servers
+
+
+def began(words):
+    return subprocess.Popen(words, env=environment(), stdin=subprocess.DEVNULL, stdout=subprocess.PIPE, stderr=subprocess.PIPE, text=True)
+
+
+def ended(program):
+    """How a program ends: its status, and what it writes up to then."""
+    told, why = program.communicate(timeout=30)
+    return program.returncode, told, why
+
+
+def try_programs(folder):
+    """The leader is killed under a command of `rme-hold`, and under `rme ask top`: both go on at the next one."""
+    over = os.path.join(folder, "over")
+    runs = f"echo inside; until [ -e {over} ]; do sleep 0.02; done; echo over"
+    with Cluster(os.path.join(folder, "one"), 1) as cluster, Replica(cluster.engines, **SIZES) as old:
+        check("the first one leads", old.leads(), old.told())
+        with Replica(cluster.engines, **SIZES) as new:
+            check("the other stands by", new.stands_by(), new.told())
+            both = ports_of((new, old))
+            hold = began([sys.executable, "-m", "rme_hold", "--port", both, "--worker", "0", "bank", "--", "sh", "-c", runs])
+            same("a command is inside", hold.stdout.readline(), "inside\n")
+            same("rme ask says so", ask((new, old), "owner", "bank"), (0, "LOCK  OWNER\nbank  0\n", ""))
+            top = began([built(), "ask", "--port", both, "top", "--json", "--count", "3"])
+            check("top shows it", '"owner":0' in top.stdout.readline())
+            old.kill()
+            check("the other leads", new.leads(), new.told())
+            status, told, why = ended(top)
+            same("top goes on", (status, told.count('"owner":0'), why), (0, 2, ""))
+            same("so does rme ask", ask((new, old), "owner", "bank"), (0, "LOCK  OWNER\nbank  0\n", ""))
+            time.sleep(1)  # rme-hold has made its connection again
+            with open(over, "x", encoding="utf-8"):
+                pass
+            same("and the command", ended(hold), (0, "over\n", ""))
+            same("it counted once", ask((new, old), "cells", "bank"), (0, "LOCK  CELLS\nbank  0\n", ""))
+            same("as job 1", new.session().attach(0)["number"], 1)
+    same("no server", ask((new, old), "ping")[:2], (6, ""))
+
+
 # ---- a leader that another has taken the place of
 
 
@@ -223,5 +269,5 @@ def try_never_back(folder):
 
 
 def part():
-    groups = try_taking_over, try_idle, try_at_once, try_take, try_take_busy, try_stopped, try_cut_off, try_never_back
+    groups = try_taking_over, try_at_once, try_take, try_take_busy, try_programs, try_stopped, try_cut_off, try_never_back
     main_with_etcd(*groups, minutes=3)
