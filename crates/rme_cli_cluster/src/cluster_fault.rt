@@ -26,9 +26,9 @@ pub enum ClusterFault {
 /// What is wrong with a log, or with a call of it.
 #[derive(Clone, Copy, Debug, Drop, PartialEq, Eq)]
 pub enum LogFault {
-    /// There is none of this name.
+    /// No log has this name.
     NoLog,
-    /// It is what a move left that was not finished.
+    /// A move that was not finished left it.
     MoveUnfinished,
     /// A call failed.
     Call(EtcdFault),

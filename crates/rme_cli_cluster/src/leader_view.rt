@@ -45,7 +45,7 @@ impl LeaderView {
         self.head.as_ref()
     }
 
-    /// How long ago it was asked for.
+    /// The time since the look.
     pub fn age(&self, rt: &HostRuntime) -> Duration {
         match &self.since {
             Some(since) => since.elapsed(rt).unwrap_or(Duration::ZERO),
@@ -54,7 +54,7 @@ impl LeaderView {
     }
 
     /// Looks again, a tenth of a second after each look, until something has changed. Answers the last view before the
-    /// change; `None` if so many looks found none.
+    /// change; `None` if this number of looks found no change.
     pub fn until_changed(
         self,
         rt: &HostRuntime,

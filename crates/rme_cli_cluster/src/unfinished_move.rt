@@ -1,4 +1,4 @@
-//! The log that a move leaves that was not finished.
+//! The log that an unfinished move leaves.
 
 use rme_replica::Head;
 

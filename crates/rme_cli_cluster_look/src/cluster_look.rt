@@ -11,8 +11,8 @@ use rme_cli_options::{EtcdPlace, LookTask, OutputFormat};
 use rme_etcd::EtcdEngine;
 use rme_replica::{Head, LogEngine};
 
-/// How many looks, a tenth of a second after one another, find no change in a log that nobody leads.
-const LOOKS: u32 = 20;
+/// The number of looks, a tenth of a second apart, after which a log without a change counts as led by no server.
+const LOOKS: u32 = 15;
 
 /// Prints the contents of a file or of a log in a cluster, and answers the status.
 pub fn run_any_look(rt: &HostRuntime, task: LookTask) -> Result<u8, CliFault> {
@@ -23,7 +23,7 @@ pub fn run_any_look(rt: &HostRuntime, task: LookTask) -> Result<u8, CliFault> {
     }
 }
 
-/// Prints the contents of a log, which faults name by this word. Before tables stands who leads it.
+/// Prints the contents of a log, which faults call by this word. The leader's line stands before tables.
 fn look_at_log(
     rt: &HostRuntime,
     place: &EtcdPlace,

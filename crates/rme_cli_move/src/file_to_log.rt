@@ -62,7 +62,7 @@ fn bytes_of(rt: &HostRuntime, path: &str) -> Result<Vec<u8>, MoveFault> {
     }
 }
 
-/// Creates the log with a head that names no state, or takes over what a move left that was not finished.
+/// Creates the log with a head that names no state, or takes over the log of an unfinished move.
 fn claim_new_log(rt: &HostRuntime, place: &EtcdPlace) -> Result<Head, MoveFault> {
     let mut engine = open_cluster(rt, place, asking_limits(place))?;
     let mut head = Head::new(String::from_str(rt.alloc(), MOVER)?, 0, new_writer(rt)?);

@@ -13,10 +13,10 @@ use rme_replica::{Head, LogEngine};
 use std::fs;
 use std::io::ErrorKind;
 
-/// How many looks, a tenth of a second after one another, have to find no change in a log that is moved.
+/// The number of looks, a tenth of a second apart, that must find no change in a log before it is moved.
 const LOOKS: u32 = 30;
 
-/// Moves the state of a log that nobody leads to a file that is not there yet.
+/// Moves the state of a log that no server leads to a file that does not exist yet.
 pub(crate) fn move_to_file(
     rt: &HostRuntime,
     place: &EtcdPlace,
@@ -49,7 +49,7 @@ pub(crate) fn move_to_file(
     }
 }
 
-/// Refuses a file that is there.
+/// Refuses a file that exists.
 fn check_no_file(rt: &HostRuntime, path: &str) -> Result<(), MoveFault> {
     match fs::symlink_metadata(rt, path) {
         Ok(_) => Err(file_there(rt, path)?),
@@ -57,7 +57,7 @@ fn check_no_file(rt: &HostRuntime, path: &str) -> Result<(), MoveFault> {
     }
 }
 
-/// Refuses a log that is not there, or that a server leads.
+/// Refuses a log that does not exist, or that a server leads.
 fn check_quiet(
     rt: &HostRuntime,
     place: &EtcdPlace,
@@ -80,7 +80,7 @@ fn check_quiet(
     }
 }
 
-/// Refuses a log whose head is no more the one that was read.
+/// Refuses a log whose head has changed since it was read.
 fn check_unchanged(
     rt: &HostRuntime,
     place: &EtcdPlace,

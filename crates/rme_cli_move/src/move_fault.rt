@@ -10,7 +10,7 @@ use std::fmt;
 pub(crate) enum MoveFault {
     /// A fault of the file or of the cluster.
     Cluster(ClusterFault),
-    /// The log of this name is there already.
+    /// The log of this name exists already.
     LogThere(String),
     /// Something has the name of the new file.
     FileThere(String),

@@ -8,7 +8,7 @@ use rme_etcd::EtcdEngine;
 use rme_replica::{Added, Head};
 use rme_replica_state::first_record;
 
-/// Creates the log of a new state, if there is none of this name by then. Nobody leads it yet.
+/// Creates the log of a new state, unless a log of this name exists by then. No server leads it yet.
 pub(crate) fn create_log(
     rt: &HostRuntime,
     place: &EtcdPlace,

@@ -4,12 +4,12 @@ use rme_cli_cluster::{ClusterFault, new_writer, open_cluster, storing_limits};
 use rme_cli_options::{EtcdPlace, LeaderSetting};
 use rme_replica::{Claimant, Ownership, ReplicaLog};
 
-/// How many times a log is claimed that its leader changes between the look at its head and the claim.
+/// The most claims of a log whose leader changes it each time between the look at its head and the claim.
 const CLAIMS: u32 = 1_000;
 
-/// Claims the log without any lines, so that its leader adds nothing more. So the log stays as it is while this server
-/// reads it, and claims it again with the first lines of its start. If the leader was faster each time, the log stays its
-/// own.
+/// Claims the log without any lines, so that its leader adds nothing more. Then the log stays the same until this server
+/// has read it and claims it again with the first lines of its start. If the leader was faster each time, it still
+/// leads.
 pub(crate) fn fence_leader(
     rt: &HostRuntime,
     place: &EtcdPlace,

@@ -1,13 +1,13 @@
-//! What the last call of a log answered, for the thread that reports the end of its server.
+//! The outcome of the last call of a log, for the thread that reports the end of its server.
 
 use rme_etcd::EtcdFault;
 use std::sync::Mutex;
 use std::sync::atomic::{AtomicU64, Ordering};
 
-/// What a call of a log answered.
+/// The outcome of a call of a log.
 #[derive(Clone, Copy, Debug, PartialEq, Eq)]
 pub(crate) enum LeadOutcome {
-    /// The log is this server's.
+    /// This server leads the log.
     Own,
     /// Another server has claimed the log.
     Overtaken,
@@ -15,8 +15,8 @@ pub(crate) enum LeadOutcome {
     Lost(EtcdFault),
 }
 
-/// What the last call of a log answered, and how many bytes the log has. The log is with the thread that writes to it;
-/// any thread may ask here.
+/// The outcome of the last call of a log, and the number of bytes of the log. One thread has the log and writes to it;
+/// every thread may read this note.
 #[derive(Drop)]
 pub(crate) struct LeadNote {
     /// It is locked for no longer than a copy takes.
@@ -36,7 +36,7 @@ impl LeadNote {
         }
     }
 
-    /// Notes what a call answered. If another thread has the note at this moment, it keeps the earlier one.
+    /// Notes the outcome of a call. If another thread has the note at this moment, the earlier outcome stays.
     pub(crate) fn set(&self, outcome: LeadOutcome) {
         if let Some(mut last) = self.last.try_lock() {
             *last = outcome;

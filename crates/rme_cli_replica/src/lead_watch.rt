@@ -1,4 +1,4 @@
-//! What a server over a log in a cluster looks after, and what it says at its end.
+//! The watch of a server over its log in a cluster, and its report when it ends.
 
 use crate::lead_note::{LeadNote, LeadOutcome};
 use rme_cli_cluster::{ClusterFault, LogFault, asking_limits, open_cluster};
@@ -59,7 +59,7 @@ impl LeadWatch<'_> {
         }
     }
 
-    /// Who has the log by now, as far as the cluster says.
+    /// The address of the server that leads the log now, if the cluster answers.
     fn leader(&self, rt: &HostRuntime) -> Result<String, AllocError> {
         let alloc = rt.alloc();
         if let Ok(mut engine) = open_cluster(rt, self.place, asking_limits(self.place)) {

@@ -5,8 +5,8 @@ use rme_etcd::{EtcdEngine, EtcdFault};
 use rme_replica::{Added, Head, LogEngine, Lost};
 use std::alloc::Global;
 
-/// The engine of a log in a cluster. It notes what its last call answered. After each claim and each checkpoint it
-/// deletes what other epochs left.
+/// The engine of a log in a cluster. It notes the outcome of its last call. After each claim and each checkpoint it
+/// deletes the records of other epochs.
 #[derive(Drop)]
 pub(crate) struct NotedEngine<'a> {
     pub(crate) engine: EtcdEngine,
@@ -31,7 +31,7 @@ impl NotedEngine<'_> {
         has
     }
 
-    /// Notes what a conditional call answered.
+    /// Notes the outcome of a conditional call.
     fn note_added(&self, added: Result<Added, Lost>, next: &Head) -> Result<Added, Lost> {
         match added {
             Ok(Added::Made) => {
@@ -51,8 +51,8 @@ impl NotedEngine<'_> {
         }
     }
 
-    /// Deletes what other epochs left, if this head ends an epoch or begins a term. A failure is ignored: the next claim
-    /// or checkpoint tries again.
+    /// Deletes the records of other epochs, if this head ends an epoch or begins a term. A failure is ignored: the next
+    /// claim or checkpoint tries again.
     fn clear_leftovers(&mut self, seen: &Head, next: &Head) {
         if seen.epoch() != next.epoch() || seen.term() != next.term() {
             let _ = self.engine.clear(next);

@@ -32,9 +32,9 @@ use std::sync::Wait;
 use std::thread::Threads;
 use std::time::Clock;
 
-/// Serves a state in a log in a cluster, once no other server leads it, until the process is killed. Creates the log
-/// first if there is none. Returns if it cannot start, and if an event cannot be logged, as when another server has taken
-/// over, which was already reported.
+/// Serves a state in a log in a cluster, once no other server leads it, until the process is killed. A log that does
+/// not exist is created first. Returns if it cannot start, and if an event cannot be logged, as when another server has
+/// taken over, which was already reported.
 pub fn run_serve_replicated<R: Threads + Wait + Clock + Sync>(
     rt: &HostRuntime,
     threads: &R,
@@ -76,7 +76,7 @@ struct LeadRequest<'a> {
     log: ServerLog,
 }
 
-/// What a server that leads notes, beside the state: its name, what the log answered, and the counts of its writes.
+/// The notes of a leading server beside the state: its name, the outcome of the last call, and counts of writes.
 #[derive(Clone, Copy)]
 struct LeadNotes<'f> {
     name: &'f StateName,
@@ -133,7 +133,7 @@ impl LeadRequest<'_> {
         self.lead(threads, notes)
     }
 
-    /// The same, with what outlives the state.
+    /// The same, with the notes, which outlive the state.
     fn lead<'f, R: Threads + Wait + Clock + Sync>(
         &'f self,
         threads: &R,
@@ -186,7 +186,7 @@ impl LeadRequest<'_> {
         }
     }
 
-    /// The state in the log, and what the request adds to it.
+    /// The state in the log, and the sizes and locks that the request adds to it.
     fn find_state<'f>(
         &self,
         name: &'f StateName,

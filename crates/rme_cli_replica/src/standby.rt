@@ -15,8 +15,8 @@ use std::time::Duration;
 /// The pause between two looks at a leader, in milliseconds.
 const PAUSE: u64 = 500;
 
-/// How much longer than it was asked for a server may wait for a quiet leader, in milliseconds: so that two that stand
-/// by seldom claim the log at once.
+/// The most milliseconds that a standby waits for a quiet leader beyond the requested time. Each wait has a random part
+/// of them, so two standbys seldom claim the log at once.
 const MOST_LONGER: u64 = 1_000;
 
 /// A server that waits until it may claim the log.
@@ -31,7 +31,7 @@ pub(crate) struct Standby<'a> {
     pub(crate) takes: bool,
 }
 
-/// What is seen of a log: each append and each beat of its leader changes it.
+/// A look at a log: each append and each beat of its leader changes it.
 #[derive(Drop)]
 struct LogView {
     head: Head,
@@ -39,7 +39,7 @@ struct LogView {
 }
 
 impl Standby<'_> {
-    /// Makes sure that there is a log: one that is not there is created.
+    /// Makes sure that the log exists: creates it if it does not.
     pub(crate) fn ensure_log(&mut self) -> Result<(), ClusterFault> {
         match self.look()? {
             Some(_) => Ok(()),
@@ -47,9 +47,9 @@ impl Standby<'_> {
         }
     }
 
-    /// Waits until the log may be claimed: nobody has led it yet, its leader was quiet for long enough, or this server
-    /// takes over at once: then it has fenced the leader, which it does only once. The first time that it has to wait it
-    /// prints whom it stands behind.
+    /// Waits until the log may be claimed: no server has led it yet, its leader was quiet for long enough, or this
+    /// server takes over at once. Then it has fenced the leader, which it does only once. If it has to wait, it first
+    /// prints the address of the leader.
     pub(crate) fn wait(&mut self) -> Result<(), ClusterFault> {
         let Some(first) = self.look()? else {
             return self.create();
@@ -87,8 +87,8 @@ impl Standby<'_> {
         Ok(())
     }
 
-    /// How many looks, each after a pause, must find no change. A process that was stopped meanwhile counts no more of
-    /// them than one that was not.
+    /// The number of looks, each after a pause, that must find no change. Looks are counted, not time: a process that
+    /// was stopped meanwhile has made none.
     fn quiet_looks(&self) -> u64 {
         let mut random = [0; 2];
         let longer = match self.rt.fill_bytes(&mut random) {
@@ -99,7 +99,7 @@ impl Standby<'_> {
         wanted.saturating_add(longer).div_ceil(PAUSE)
     }
 
-    /// What is seen of the log now; `None` if there is none.
+    /// A look at the log; `None` if it does not exist.
     fn look(&mut self) -> Result<Option<LogView>, ClusterFault> {
         let Ok(found) = self.engine.find_head() else {
             return Err(self.fault());
@@ -126,7 +126,7 @@ impl Standby<'_> {
         ClusterFault::of_call(self.rt.alloc(), self.place, &self.engine)
     }
 
-    /// Prints whom this server stands behind.
+    /// Prints the address of the leader.
     fn print(&self, head: &Head) -> Result<(), ClusterFault> {
         let address = escape_controls(self.rt.alloc(), head.address())?;
         match println!(self.rt; "standby behind {address}") {
