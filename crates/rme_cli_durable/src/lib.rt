@@ -17,7 +17,7 @@ mod serving;
 mod state_pages;
 mod state_watch;
 
-pub use log_of_state::{ServedLog, StateAndLog, state_and_log};
+pub use log_of_state::{ServedLog, state_and_log};
 pub use opening::open_grown;
 pub use requested_state::{Growth, ServerConfig, first_lines, growth_of, usual_lines};
 pub use serve_durable::run_serve_durable;

@@ -1,13 +1,12 @@
 //! A state that is opened, with its log.
 
-ghost use Rattle.std.specs.Prelude.{◌≡◌, true};
+ghost use Rattle.std.specs.Prelude.{◌≡◌, None, true};
 
-use rme_durable_epochs::EpochExecutor;
 use rme_durable_file::{OpenedState, StateFile, SystemFile};
 use rme_durable_log::{LogStore, NotDurable, OpenLog};
 use rme_durable_metrics::MeteredStore;
+use rme_durable_server::StateAndLog;
 use rme_metrics::LogCounters;
-use rme_wire::Names;
 
 /// The file of a state as the store of its log, whose writes are counted.
 #[derive(Drop)]
@@ -45,15 +44,7 @@ impl LogStore for ServedLog<'_> {
     }
 }
 
-/// A state with its open log.
-#[derive(Drop)]
-pub struct StateAndLog<L: LogStore> {
-    pub names: Names,
-    pub executor: EpochExecutor,
-    pub log: OpenLog<L>,
-}
-
-/// A state with a log over its file. If there are counters, its writes are counted.
+/// A state with a log over its file, which no other server may claim. If there are counters, its writes are counted.
 pub fn state_and_log<'a>(
     rt: &'a HostRuntime,
     counters: Option<&'a LogCounters>,
@@ -62,6 +53,7 @@ pub fn state_and_log<'a>(
     requires works { opened.file.works ≡ true }
     ensures names { result.names ≡ opened.entry.names }
     ensures executor { result.executor ≡ opened.entry.executor }
+    ensures leader { result.leader ≡ None }
 {
     StateAndLog {
         names: opened.names,
@@ -73,5 +65,6 @@ pub fn state_and_log<'a>(
                 clock: rt,
             },
         }),
+        leader: None,
     }
 }

@@ -3,7 +3,6 @@
 ghost use Rattle.std.specs.Prelude.{◌≡◌, []};
 ghost use Rattle.rme_durable_server.specs.ServerHistories.{server_state};
 
-use crate::log_of_state::StateAndLog;
 use crate::state_pages::StatePages;
 use crate::state_watch::StateWatch;
 use rme_cli_http::{HttpPort, MeteredSite, look_up_status, serve_metered};
@@ -13,7 +12,7 @@ use rme_cli_messages::CliFault;
 use rme_cli_options::ServerLog;
 use rme_durable_log::{LogStore, NotDurable};
 use rme_durable_lookups::clients_of;
-use rme_durable_server::{DurableServer, ServerSetting, ServerTag};
+use rme_durable_server::{DurableServer, ServerSetting, ServerTag, StateAndLog};
 use rme_line_diagnose::Reason;
 use rme_line_io::ServeFault;
 use rme_metrics::{LogCounters, ServerCounters};
@@ -73,16 +72,11 @@ pub fn serve_logged<
     requires log { state.log ≡ J.book }
     requires lines { state.executor.lines ≡ [] }
     requires named { state.names ≡ J.opening.names }
+    requires led { state.leader ≡ J.opening.leader }
     requires begins { J.opening.begins (server_state state.executor) }
 {
-    let StateAndLog {
-        names,
-        executor,
-        log,
-    } = state;
-    let alloc = site.rt.alloc();
-    let workers = clients_of(executor.executor().world());
-    let kept = DurableServer::<L, Closer, J>::new(alloc, names, executor, site.setting, log)?;
+    let workers = clients_of(state.executor.executor().world());
+    let kept = DurableServer::<L, Closer, J>::new(site.rt.alloc(), site.setting, state)?;
     site.print_addresses()?;
     serve_durable_state(threads, site, listeners, &kept, workers)
 }

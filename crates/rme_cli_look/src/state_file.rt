@@ -1,6 +1,6 @@
 //! The contents of a state's file, whether or not a server uses it.
 
-ghost use Rattle.std.specs.Prelude.{◌≡◌, ◌<◌, ◌++◌, ◌∷◌, [], OnOk, string_bytes};
+ghost use Rattle.std.specs.Prelude.{◌≡◌, ◌<◌, ◌++◌, ◌∷◌, [], None, OnOk, string_bytes};
 ghost use Rattle.rme_durable_lookups.specs.StatusTexts.{source_state, status_state, status_text};
 
 use crate::rows::{
@@ -15,7 +15,8 @@ use rme_durable_file::{
 };
 use rme_durable_format::{BadLog, NoProgress, whole_lines};
 use rme_durable_lookups::{
-    LockStatus, StatusSource, WorkerStatus, clients_of, lock_status, push_status, worker_status,
+    LockStatus, StatusNotes, StatusSource, WorkerStatus, clients_of, lock_status, push_status,
+    worker_status,
 };
 use rme_durable_recovery::{RecoveredState, recover};
 use rme_tree::held;
@@ -175,13 +176,22 @@ fn status_view_of(recovered: &RecoveredState) -> StatusSource<'_>
     }
 }
 
-/// Appends the answer to the order `status`, and answers the status of the process.
+/// Appends the answer to the order `status`, without notes, and answers the status of the process.
 fn push_json(out: &mut String, recovered: &RecoveredState) -> Result<u8, NoMemory>
     ensures { OnOk result (string_bytes out.new ≡ string_bytes out.old
-        ++ (status_text recovered.now.log.names (status_state recovered.now.log.header.epoch recovered.now.base
+        ++ (status_text recovered.now.log.names None (status_state recovered.now.log.header.epoch recovered.now.base
         recovered.now.log.world) [] ++ 10 ∷ [])) }
 {
-    push_status(out, &recovered.log.names, &status_view_of(recovered), &[])?;
+    let notes = StatusNotes {
+        workers: &[],
+        leader: &None,
+    };
+    push_status(
+        out,
+        &recovered.log.names,
+        &status_view_of(recovered),
+        &notes,
+    )?;
     out.push_str("\n")?;
     Ok(0)
 }

@@ -1,12 +1,12 @@
 //! A state in a log in a cluster, with its log.
 
-ghost use Rattle.std.specs.Prelude.{◌≡◌, true};
+ghost use Rattle.std.specs.Prelude.{◌≡◌, Some, true};
 
 use crate::noted_engine::NotedEngine;
-use rme_cli_durable::StateAndLog;
 use rme_durable_file::{OpenedState, StateFile};
 use rme_durable_log::{LogStore, NotDurable, OpenLog};
 use rme_durable_metrics::MeteredStore;
+use rme_durable_server::{LeaderNote, StateAndLog};
 use rme_metrics::LogCounters;
 use rme_replica_state::ReplicaState;
 
@@ -47,17 +47,19 @@ impl LogStore for ClusterLog<'_> {
     }
 }
 
-/// A state whose log was claimed, with this log, to which nothing was appended since then. Its writes are counted if
-/// counters are given.
+/// A state whose log was claimed by this leader, with this log, which no append has asked since then. If there are
+/// counters, its writes are counted.
 pub(crate) fn state_and_cluster_log<'a>(
     rt: &'a HostRuntime,
     counters: Option<&'a LogCounters>,
     opened: OpenedState<'a, ReplicaState<NotedEngine<'a>>>,
+    leader: LeaderNote,
 ) -> StateAndLog<ClusterLog<'a>>
     requires works { opened.file.works ≡ true }
     requires barriers { opened.file.barriers ≡ 0 }
     ensures names { result.names ≡ opened.entry.names }
     ensures executor { result.executor ≡ opened.entry.executor }
+    ensures leader { result.leader ≡ Some leader }
 {
     StateAndLog {
         names: opened.names,
@@ -69,5 +71,6 @@ pub(crate) fn state_and_cluster_log<'a>(
                 clock: rt,
             },
         }),
+        leader: Some(leader),
     }
 }

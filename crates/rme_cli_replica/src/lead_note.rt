@@ -1,5 +1,6 @@
 //! The outcome of the last call of a log, for the thread that reports the end of its server.
 
+use rme_durable_server::LeaderNote;
 use rme_etcd::EtcdFault;
 use std::sync::Mutex;
 use std::sync::atomic::{AtomicU64, Ordering};
@@ -15,12 +16,14 @@ pub(crate) enum LeadOutcome {
     Lost(EtcdFault),
 }
 
-/// The outcome of the last call of a log, and the number of bytes of the log. One thread has the log and writes to it;
-/// every thread may read this note.
+/// What the last call of a log answered, the term in which this server adds to it, and how many bytes it has. The log is
+/// with the thread that writes to it; any thread may ask here.
 #[derive(Drop)]
 pub(crate) struct LeadNote {
     /// It is locked for no longer than a copy takes.
     last: Mutex<LeadOutcome>,
+    /// The term of the last add that was made; 0 before the first.
+    term: AtomicU64,
     /// The bytes of the records that the head names.
     bytes: AtomicU64,
     /// The bytes of the parts that were staged for the next epoch.
@@ -31,6 +34,7 @@ impl LeadNote {
     pub(crate) fn new() -> LeadNote {
         LeadNote {
             last: Mutex::new(LeadOutcome::Own),
+            term: AtomicU64::new(0),
             bytes: AtomicU64::new(0),
             staged: AtomicU64::new(0),
         }
@@ -49,6 +53,19 @@ impl LeadNote {
             Some(last) => *last,
             None => LeadOutcome::Own,
         }
+    }
+
+    /// The leader of the log, once it is claimed: this server, which has this address.
+    pub(crate) fn leader(&self, address: String) -> LeaderNote {
+        LeaderNote {
+            address,
+            term: self.term.load(Ordering::SeqCst),
+        }
+    }
+
+    /// An add has put a head of this term.
+    pub(crate) fn set_term(&self, term: u64) {
+        self.term.store(term, Ordering::SeqCst);
     }
 
     /// The bytes of the log.

@@ -5,8 +5,8 @@ use rme_etcd::{EtcdEngine, EtcdFault};
 use rme_replica::{Added, Head, LogEngine, Lost};
 use std::alloc::Global;
 
-/// The engine of a log in a cluster. It notes the outcome of its last call. After each claim and each checkpoint it
-/// deletes the records of other epochs.
+/// The engine of a log in a cluster. It notes what its last call answered, and the term of its last add. After each claim
+/// and each checkpoint it deletes what other epochs left.
 #[derive(Drop)]
 pub(crate) struct NotedEngine<'a> {
     pub(crate) engine: EtcdEngine,
@@ -87,6 +87,7 @@ impl LogEngine for NotedEngine<'_> {
         let added = self.engine.add(seen, next, lines);
         let added = self.note_added(added, next)?;
         if has_head(&added, next) {
+            self.note.set_term(next.term());
             self.note
                 .count_added(lines.len(), seen.epoch() == next.epoch());
             self.clear_leftovers(seen, next);

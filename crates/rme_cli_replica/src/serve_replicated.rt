@@ -11,8 +11,8 @@ use rme_cli_cluster::{
     ClusterFault, LogFault, asking_limits, end_of_command, new_writer, open_cluster, storing_limits,
 };
 use rme_cli_durable::{
-    Growth, ServerConfig, StateAndLog, StateSite, growth_of, limits_of, open_grown, serve_logged,
-    setting_of, split_task,
+    Growth, ServerConfig, StateSite, growth_of, limits_of, open_grown, serve_logged, setting_of,
+    split_task,
 };
 use rme_cli_http::HttpPort;
 use rme_cli_keys::open_keys;
@@ -20,7 +20,7 @@ use rme_cli_listen::listen;
 use rme_cli_messages::CliFault;
 use rme_cli_options::{EtcdPlace, LeaderSetting, ListenAddresses, ReplicatedServeTask, ServerLog};
 use rme_durable_file::{RecoveredFile, StateFile, StateName};
-use rme_durable_server::ServerSetting;
+use rme_durable_server::{ServerSetting, StateAndLog};
 use rme_etcd::EtcdFault;
 use rme_metrics::LogCounters;
 use rme_replica::Claimant;
@@ -144,6 +144,7 @@ impl LeadRequest<'_> {
             Ok(keys) => keys,
             Err(refused) => return Ok(Some(refused.status())),
         };
+        let address = String::from_str(alloc, self.leader.address.as_str())?;
         let (found, growth) = self.find_state(notes.name, notes.note)?;
         let http = HttpPort::listen(self.rt, self.http)?;
         let places = copy_of_places(alloc, self.places)?;
@@ -168,7 +169,8 @@ impl LeadRequest<'_> {
         };
         let served = match open_grown(self.rt, found, growth) {
             Ok(opened) => {
-                let state = state_and_cluster_log(self.rt, counters, opened);
+                let leader = notes.note.leader(address);
+                let state = state_and_cluster_log(self.rt, counters, opened, leader);
                 serve_claimed(threads, &site, listeners, state)
             }
             Err(fault) => self.not_claimed(fault, notes.note),

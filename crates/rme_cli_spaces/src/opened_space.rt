@@ -3,13 +3,13 @@
 //! Reading a file and making a server touch far more of a stack than serving does, and an open space keeps what its
 //! thread has touched.
 
-ghost use Rattle.std.specs.Prelude.{◌≡◌, []};
+ghost use Rattle.std.specs.Prelude.{◌≡◌, [], None};
 ghost use Rattle.rme_durable_server.specs.ServerHistories.{server_state};
 
-use rme_cli_durable::{ServedLog, StateAndLog, state_and_log};
+use rme_cli_durable::{ServedLog, state_and_log};
 use rme_cli_messages::CliFault;
 use rme_durable_file::{RecoveredFile, StateName, check_replaceable, open_state_file};
-use rme_durable_server::{DurableServer, ServerSetting, ServerTag};
+use rme_durable_server::{DurableServer, ServerSetting, ServerTag, StateAndLog};
 use rme_metrics::LogCounters;
 use rme_session_server::Closer;
 use rme_words::Refusal;
@@ -29,6 +29,7 @@ pub(crate) type SpaceLog<'a> = ServedLog<'a>;
 pub(crate) struct OpenedSpace<'a> {
     pub(crate) state: StateAndLog<SpaceLog<'a>>,
     ghost lines: { state.executor.lines ≡ [] },
+    ghost led: { state.leader ≡ None },
 }
 
 /// The file of a space that is to be opened, and what its writes are counted by, if they are.
@@ -103,6 +104,7 @@ pub(crate) fn server_of<'a, J: ServerTag + Send + Sync + 'static, R: Threads + W
 ) -> Result<Box<DurableServer<SpaceLog<'a>, Closer, J>, Global>, Refusal>
     requires log { opened.value.state.log ≡ J.book }
     requires named { opened.value.state.names ≡ J.opening.names }
+    requires led { opened.value.state.leader ≡ J.opening.leader }
     requires begins { J.opening.begins (server_state opened.value.state.executor) }
 {
     thread::scope(
@@ -111,6 +113,7 @@ pub(crate) fn server_of<'a, J: ServerTag + Send + Sync + 'static, R: Threads + W
         move |scope| -> Result<Box<DurableServer<SpaceLog<'_>, Closer, J>, Global>, Refusal>
             requires log { opened.value.state.log ≡ J.book }
             requires named { opened.value.state.names ≡ J.opening.names }
+            requires led { opened.value.state.leader ≡ J.opening.leader }
             requires begins { J.opening.begins (server_state opened.value.state.executor) }
         { server_beside(threads, scope, alloc, setting, opened) },
     )
@@ -126,11 +129,13 @@ fn server_beside<'s, 'a: 's, E, J: ServerTag + Send + Sync + 's, R: Threads + Wa
 ) -> Result<Box<DurableServer<SpaceLog<'a>, Closer, J>, Global>, Refusal>
     requires log { opened.value.state.log ≡ J.book }
     requires named { opened.value.state.names ≡ J.opening.names }
+    requires led { opened.value.state.leader ≡ J.opening.leader }
     requires begins { J.opening.begins (server_state opened.value.state.executor) }
 {
     let making = move || -> Result<Box<DurableServer<SpaceLog<'_>, Closer, J>, Global>, Refusal>
         requires log { opened.value.state.log ≡ J.book }
         requires named { opened.value.state.names ≡ J.opening.names }
+        requires led { opened.value.state.leader ≡ J.opening.leader }
         requires begins { J.opening.begins (server_state opened.value.state.executor) }
     { server_here(alloc, setting, opened) };
     let Ok(making) = Builder::new()
@@ -150,15 +155,11 @@ fn server_here<'a, J: ServerTag>(
 ) -> Result<Box<DurableServer<SpaceLog<'a>, Closer, J>, Global>, Refusal>
     requires log { opened.value.state.log ≡ J.book }
     requires named { opened.value.state.names ≡ J.opening.names }
+    requires led { opened.value.state.leader ≡ J.opening.leader }
     requires begins { J.opening.begins (server_state opened.value.state.executor) }
 {
     let OpenedSpace { state } = Box::into_inner(opened);
-    let StateAndLog {
-        names,
-        executor,
-        log,
-    } = state;
-    let Ok(server) = DurableServer::new(alloc, names, executor, setting, log) else {
+    let Ok(server) = DurableServer::new(alloc, setting, state) else {
         return Err(Refusal::NoMemory);
     };
     match Box::new(alloc, server) {

@@ -114,6 +114,7 @@ fn serve_logged_space<J: ServerTag + Send + Sync + 'static, R: Threads + Wait + 
 ) -> Option<Refusal>
     requires log { opened.value.state.log ≡ J.book }
     requires named { opened.value.state.names ≡ J.opening.names }
+    requires led { opened.value.state.leader ≡ J.opening.leader }
     requires begins { J.opening.begins (server_state opened.value.state.executor) }
 {
     let alloc = space.context.rt.alloc();

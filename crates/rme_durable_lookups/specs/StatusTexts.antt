@@ -1,6 +1,6 @@
--- The answer to the order `status`: a function of the names of the locks, of a world, of the base and the number of its
--- epoch, and of the notes on its workers.
-use Rattle.std.specs.Prelude.{ℕ, ◌-◌, ◌==◌, nat_lt, Bool, false, List, [], ◌++◌, Option, Some, None, is_some, codes, decimal, slice_get, if◌then◌else◌}
+-- The answer to the order `status`: a function of the names of the locks, of who leads the log, of a world, of the base
+-- and the number of its epoch, and of the notes on its workers.
+use Rattle.std.specs.Prelude.{ℕ, ◌-◌, ◌==◌, nat_lt, Bool, false, List, [], ◌++◌, Option, Some, None, is_some, codes, decimal, slice_get, string_bytes, if◌then◌else◌}
 use Rattle.std.specs.List.{range_with_len}
 use Rattle.serde_json.specs.Data.{string}
 use Rattle.serde_json.specs.Written.{compact_text}
@@ -18,6 +18,7 @@ use Rattle.rme_durable_lookups.specs.declared.status.StatusSource.{StatusSource}
 use Rattle.rme_durable_lookups.specs.declared.status.WorkerStance.{WorkerStance}
 use Rattle.rme_durable_lookups.specs.declared.status.WorkerStance.TheVariants.{Ready, Climb, Held}
 use Rattle.rme_durable_lookups.specs.declared.status.WorkerStatus.{WorkerStatus}
+use Rattle.rme_durable_lookups.specs.declared.status_notes.LeaderNote.{LeaderNote}
 use Rattle.rme_durable_lookups.specs.declared.worker_notes.WorkerNote.{WorkerNote}
 
 -- What a status tells of: a world, the base of its epoch, and the number of earlier epochs.
@@ -172,11 +173,30 @@ abbrev pub workers_text : List (List ℕ) → StatusState → List WorkerNote �
 workers_text names state notes = separated_text (numbered_worker_text names state notes) false (range_with_len 0
     (state.world.shape.workers - 1))
 
-abbrev pub status_front : ℕ → List ℕ
-status_front epoch = codes "{\"epoch\":" ++ (decimal epoch ++ codes ",\"locks\":[")
+-- the text before the locks, with the leader's address if there is a leader
+abbrev pub epoch_text : ℕ → List ℕ
+epoch_text epoch = codes "{\"epoch\":" ++ decimal epoch
 
--- `{"epoch":..,"locks":[..],"ok":"status","workers":[..]}`
-abbrev pub status_text : List (List ℕ) → StatusState → List WorkerNote → List ℕ
-status_text names state notes =
-    status_front state.epoch ++ (locks_text names state ++ (codes "],\"ok\":\"status\",\"workers\":[" ++
+abbrev pub address_text : List ℕ → List ℕ
+address_text address = codes ",\"leader\":" ++ compact_text (string address)
+
+abbrev pub leader_text : Option LeaderNote → List ℕ
+leader_text None = []
+leader_text (Some leader) = address_text (string_bytes leader.address)
+
+abbrev pub status_front : ℕ → Option LeaderNote → List ℕ
+status_front epoch leader = epoch_text epoch ++ (leader_text leader ++ codes ",\"locks\":[")
+
+-- the text between the locks and the workers, with the leader's term if there is a leader
+abbrev pub term_text : Option LeaderNote → List ℕ
+term_text None = []
+term_text (Some leader) = codes ",\"term\":" ++ decimal leader.term
+
+abbrev pub status_middle : Option LeaderNote → List ℕ
+status_middle leader = codes "],\"ok\":\"status\"" ++ (term_text leader ++ codes ",\"workers\":[")
+
+-- `{"epoch":..,"leader":..,"locks":[..],"ok":"status","term":..,"workers":[..]}`
+abbrev pub status_text : List (List ℕ) → Option LeaderNote → StatusState → List WorkerNote → List ℕ
+status_text names leader state notes =
+    status_front state.epoch leader ++ (locks_text names state ++ (status_middle leader ++
     (workers_text names state notes ++ codes "]}")))

@@ -10,7 +10,7 @@ ghost use Rattle.rme_world.specs.Calls.{CellsContract, OwnerContract};
 
 use crate::lookup::SessionLookup;
 use crate::status::{StatusSource, push_status};
-use crate::worker_notes::WorkerNote;
+use crate::status_notes::StatusNotes;
 use rme_durable_epochs::EpochExecutor;
 use rme_line_text::{Reply, push_reply};
 use rme_wire::Names;
@@ -25,9 +25,9 @@ pub fn write_lookup(
     names: &Names,
     executor: &EpochExecutor,
     look: SessionLookup,
-    notes: &[WorkerNote],
+    notes: &StatusNotes<'_>,
 ) -> Result<(), NoMemory>
-    ensures { OnOk result (LookupShows names.now
+    ensures { OnOk result (LookupShows names.now notes.now.leader.now
         (status_state executor.now.epoch executor.now.base executor.now.executor.world) look
         (string_bytes out.new)) }
 {
@@ -68,16 +68,16 @@ fn push_cells(out: &mut String, names: &Names, world: &World, lock: u32) -> Resu
     push_reply(out, names, world.history(), &reply)
 }
 
-/// Appends the status of an executor, with the notes on its workers.
+/// Appends the status of an executor, with who leads its log and the notes on its workers.
 fn push_executor_status(
     out: &mut String,
     names: &Names,
     executor: &EpochExecutor,
-    notes: &[WorkerNote],
+    notes: &StatusNotes<'_>,
 ) -> Result<(), NoMemory>
     ensures { OnOk result ((told : List WorkerNote) × (string_bytes out.new ≡ string_bytes out.old
-        ++ status_text names.now (status_state executor.now.epoch executor.now.base executor.now.executor.world)
-        told)) }
+        ++ status_text names.now notes.now.leader.now
+        (status_state executor.now.epoch executor.now.base executor.now.executor.world) told)) }
 {
     push_status(out, names, &StatusSource::of(executor), notes)
 }

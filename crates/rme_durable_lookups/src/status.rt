@@ -8,6 +8,7 @@ ghost use Rattle.rme_durable_epochs.specs.EpochLengths.{AreSectionCounts};
 ghost use Rattle.rme_waiting.specs.WorldWords.{world_bank};
 ghost use Rattle.rme_durable_lookups.specs.StatusTexts as spec;
 
+use crate::status_notes::{LeaderNote, StatusNotes};
 use crate::worker_notes::WorkerNote;
 use rme_durable_epochs::{Base, EpochExecutor, Sections};
 use rme_line_text::lock_name;
@@ -172,31 +173,82 @@ fn stance_at_lock(owner: Option<u32>, worker: u32, lock: u32) -> WorkerStance
     }
 }
 
-/// Appends the answer to the order `status`, without a newline. Each worker that has one of the notes, by its number,
-/// is told with it. An error means that memory was refused, or that a number over all epochs is not a number of 64 bits;
-/// the text is then of no use.
+/// Appends the answer to the order `status`, without a newline. It has the notes: those on workers that there are, and
+/// who leads the log. An error means that memory was refused, or that a number over all epochs is not a number of 64
+/// bits; the text is then of no use.
 pub fn push_status(
     out: &mut String,
     names: &Names,
     told: &StatusSource<'_>,
-    notes: &[WorkerNote],
+    notes: &StatusNotes<'_>,
 ) -> Result<(), NoMemory>
     ensures { OnOk result (string_bytes out.new ≡ string_bytes out.old ++ spec.status_text names.now
-        (spec.source_state told.now) notes.now) }
+        notes.now.leader.now (spec.source_state told.now) notes.now.workers.now) }
 {
-    push_status_front(out, told.epoch)?;
+    push_status_front(out, told.epoch, notes.leader)?;
     push_locks(out, names, told)?;
-    out.push_str("],\"ok\":\"status\",\"workers\":[")?;
-    push_workers(out, names, told, notes)?;
+    push_status_middle(out, notes.leader)?;
+    push_workers(out, names, told, notes.workers)?;
     out.push_str("]}")?;
     Ok(())
 }
 
-/// Appends the text of a status before its locks.
-fn push_status_front(out: &mut String, epoch: u64) -> Result<(), AllocError>
-    ensures { OnOk result (string_bytes out.new ≡ string_bytes out.old ++ spec.status_front epoch) }
+/// Appends the text of a status before its locks, with the leader's address if there is a leader.
+fn push_status_front(
+    out: &mut String,
+    epoch: u64,
+    leader: &Option<LeaderNote>,
+) -> Result<(), AllocError>
+    ensures { OnOk result (string_bytes out.new ≡ string_bytes out.old ++ spec.status_front epoch leader.now) }
 {
-    write!(out, "{{\"epoch\":{epoch},\"locks\":[")
+    push_epoch(out, epoch)?;
+    push_leader(out, leader)?;
+    out.push_str(",\"locks\":[")?;
+    Ok(())
+}
+
+fn push_epoch(out: &mut String, epoch: u64) -> Result<(), AllocError>
+    ensures { OnOk result (string_bytes out.new ≡ string_bytes out.old ++ spec.epoch_text epoch) }
+{
+    write!(out, "{{\"epoch\":{epoch}")
+}
+
+/// Appends the leader's address, if there is a leader.
+fn push_leader(out: &mut String, leader: &Option<LeaderNote>) -> Result<(), AllocError>
+    ensures { OnOk result (string_bytes out.new ≡ string_bytes out.old ++ spec.leader_text leader.now) }
+{
+    match leader {
+        Some(leader) => push_address(out, leader.address.as_str()),
+        None => Ok(()),
+    }
+}
+
+fn push_address(out: &mut String, address: &str) -> Result<(), AllocError>
+    ensures { OnOk result (string_bytes out.new ≡ string_bytes out.old ++ spec.address_text address.now) }
+{
+    let quoted = json_text(*out.allocator(), address)?;
+    write!(out, ",\"leader\":{quoted}")
+}
+
+/// Appends the text of a status between its locks and its workers, with the leader's term if there is a leader.
+fn push_status_middle(out: &mut String, leader: &Option<LeaderNote>) -> Result<(), AllocError>
+    ensures { OnOk result (string_bytes out.new ≡ string_bytes out.old ++ spec.status_middle leader.now) }
+{
+    out.push_str("],\"ok\":\"status\"")?;
+    push_term(out, leader)?;
+    out.push_str(",\"workers\":[")?;
+    Ok(())
+}
+
+/// Appends the leader's term, if there is a leader.
+fn push_term(out: &mut String, leader: &Option<LeaderNote>) -> Result<(), AllocError>
+    ensures { OnOk result (string_bytes out.new ≡ string_bytes out.old ++ spec.term_text leader.now) }
+{
+    let Some(leader) = leader else {
+        return Ok(());
+    };
+    let term = leader.term;
+    write!(out, ",\"term\":{term}")
 }
 
 /// Appends the status of each lock, separated by commas.

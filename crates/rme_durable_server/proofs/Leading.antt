@@ -20,6 +20,7 @@ use Rattle.rme_durable_server.specs.DurableOrders.{ClientTerms}
 use Rattle.rme_durable_lookups.specs.LookupAnswers.{LookupShows}
 use Rattle.rme_durable_server.specs.DurableAnswers.{DurableLookup, LookupMoment, shown_state}
 use Rattle.rme_durable_lookups.specs.declared.lookup.SessionLookup.{SessionLookup}
+use Rattle.rme_durable_lookups.specs.declared.status_notes.LeaderNote.{LeaderNote}
 use Rattle.rme_session_world.specs.declared.executor.SessionState.{SessionState}
 use Rattle.rme_durable_server.proofs.Growing.{appends_from, commands_some, drop_all, drop_rest}
 
@@ -170,13 +171,15 @@ acted opening old state end epoch after from to author by others logged appends 
   session = session;
 }
 
-pub shown_at : (found : Option (List LogEntry)) (opening : ServerOpening) (names : List (List ℕ)) (state : ServerState)
-    (look : SessionLookup) (bytes : List ℕ)
-    → names ≡ opening.names → IfSome found (λ (end : List LogEntry). LogLeads opening end state)
-    → LookupShows names (shown_state state) look bytes
+pub shown_at : (found : Option (List LogEntry)) (opening : ServerOpening) (names : List (List ℕ))
+    (leader : Option LeaderNote) (state : ServerState) (look : SessionLookup) (bytes : List ℕ)
+    → names ≡ opening.names → leader ≡ opening.leader → IfSome found (λ (end : List LogEntry). LogLeads opening end state)
+    → LookupShows names leader (shown_state state) look bytes
     → IfSome found (λ (end : List LogEntry). LookupMoment opening look bytes end)
-shown_at None opening names state look bytes named leads shows = tt
-shown_at (Some end) opening names state look bytes named leads shows = record { state = state; leads = leads; shows = subst (λ (n : List (List ℕ)). LookupShows n (shown_state state) look bytes) named shows }
+shown_at None opening names leader state look bytes named led leads shows = tt
+shown_at (Some end) opening names leader state look bytes named led leads shows =
+    let told = subst (λ (l : Option LeaderNote). LookupShows names l (shown_state state) look bytes) led shows in
+    record { state = state; leads = leads; shows = subst (λ (n : List (List ℕ)). LookupShows n opening.leader (shown_state state) look bytes) named told }
 
 pub looked_up : {X : Type 0} (holds : X → StoreState) (terms : ClientTerms) (old : SessionMoment)
     (look : SessionLookup) (bytes : List ℕ) (end : List LogEntry) (now : SessionMoment)

@@ -44,7 +44,7 @@ pub record LookupMoment (opening : ServerOpening) (look : SessionLookup) (bytes 
   where
     pub state : ServerState
     pub leads : LogLeads opening log state
-    pub shows : LookupShows opening.names (shown_state state) look bytes
+    pub shows : LookupShows opening.names opening.leader (shown_state state) look bytes
 
 -- A look-up is answered with what it shows at one moment of the log, at which the session acts and appends nothing,
 -- once everything before that moment is durable, and the log was still the server's own after it.

@@ -1,5 +1,5 @@
 -- A server's life as one history: the entries of its log, and the states between them.
-use Rattle.std.specs.Prelude.{◌≡◌, ◌⊎◌, ℕ, ◌+◌, List, [], ◌∷◌, ◌++◌, Some, None, IfSome, slice_get, ⊤}
+use Rattle.std.specs.Prelude.{◌≡◌, ◌⊎◌, ℕ, ◌+◌, List, [], ◌∷◌, ◌++◌, Option, Some, None, IfSome, slice_get, ⊤}
 use Rattle.rme_session_world.specs.Downs.{IsWorkerDown}
 use Rattle.rme_session_world.specs.Executors.{held_session, owned_worker}
 use Rattle.rme_session_world.specs.ExecutorStates.{ExecutorState}
@@ -21,6 +21,7 @@ use Rattle.rme_durable_epochs.specs.HeaderBases.{IsHeaderBase}
 use Rattle.rme_durable_epochs.specs.ClientValues.{client_session}
 use Rattle.rme_durable_epochs.specs.EpochStates.{EpochState}
 use Rattle.rme_durable_epochs.specs.declared.epoch_base.Base.{Base}
+use Rattle.rme_durable_lookups.specs.declared.status_notes.LeaderNote.{LeaderNote}
 
 -- The state of a server: the world with the session that has each worker, the base of the epoch, how often each worker
 -- was restarted, and the number of earlier epochs.
@@ -34,14 +35,15 @@ abbrev pub server_state : EpochState → ServerState
 server_state epoch =
     record { executor = epoch.executor; base = epoch.base; lives = epoch.lives; epoch = epoch.epoch }
 
--- The names of the locks, and the states with which the server may begin.
+-- The names of the locks, who leads the log if others may claim it, and the states with which the server may begin.
 pub record ServerOpening : Type 1 where
   pub names : List (List ℕ)
+  pub leader : Option LeaderNote
   pub begins : ServerState → Type 0
 
 -- The opening of a tag that names none.
 abbrev pub no_opening : ServerOpening
-no_opening = record { names = []; begins = λ _. ⊤ }
+no_opening = record { names = []; leader = None; begins = λ _. ⊤ }
 
 -- An event batch of a session: its events lead from one state to the next, and its lines are those of their commands.
 -- All events are of one worker, which that session had, or no session had. A restart is one more life of the worker.

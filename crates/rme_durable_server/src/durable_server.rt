@@ -10,7 +10,9 @@ use rme_durable_epochs::{ApplyError, ClientAnswer, EpochExecutor};
 use rme_durable_log::{
     GroupCommit, LogPosition, LogStore, LogTag, NotDurable, OpenLog, lock_with_spin,
 };
-use rme_durable_lookups::{SessionLookup, WorkerNotes, clients_of, write_lookup};
+use rme_durable_lookups::{
+    LeaderNote, SessionLookup, StatusNotes, WorkerNotes, clients_of, write_lookup,
+};
 use rme_session_loop::{Client, CloseHandle, ReleaseCause, SessionRegistry, is_take_over};
 use rme_session_protocol::{ClientReply, Order};
 use rme_wire::Names;
@@ -28,11 +30,22 @@ pub struct ServerSetting {
     pub waiting: WaitingJobs,
 }
 
+/// A state with its open log, with which a server begins.
+#[derive(Drop)]
+pub struct StateAndLog<L: LogStore> {
+    pub names: Names,
+    pub executor: EpochExecutor,
+    pub log: OpenLog<L>,
+    /// The server itself, as the leader of a log that others may claim; `None` if no other server may.
+    pub leader: Option<LeaderNote>,
+}
+
 /// A world that sessions share, and the log of its events.
 #[derive(Drop)]
 pub struct DurableServer<L: LogStore, H: CloseHandle, J: ServerTag> {
     pub(crate) alloc: Global,
     pub(crate) names: Names,
+    pub(crate) leader: Option<LeaderNote>,
     /// The number of workers that sessions may attach.
     pub(crate) clients: u32,
     pub(crate) registry: SessionRegistry<H>,
@@ -41,6 +54,7 @@ pub struct DurableServer<L: LogStore, H: CloseHandle, J: ServerTag> {
     pub(crate) executor: Mutex<DurableExecutor<L, J>>,
     pub(crate) commits: GroupCommit<L, J>,
     ghost named: { names ≡ J.opening.names },
+    ghost led: { leader ≡ J.opening.leader },
 }
 
 impl<L: LogStore, H: CloseHandle, J: ServerTag> DurableServer<L, H, J> {
@@ -51,27 +65,33 @@ impl<L: LogStore, H: CloseHandle, J: ServerTag> DurableServer<L, H, J> {
     ghost use Rattle.rme_durable_log.specs.Logs.{GrowsByOthers, IsCommitted};
     ghost use Rattle.rme_session_protocol.specs.ClientReplies.{reply_of_client};
 
-    /// A server of an executor whose state is in the opened log, with the names of its locks. A checkpoint is made also
-    /// once a worker has used all job numbers of an epoch.
+    /// A server of a state, which its opened log has, with the names of its locks. A checkpoint is made also once a worker
+    /// has used all job numbers of an epoch.
     pub fn new(
         alloc: Global,
-        names: Names,
-        executor: EpochExecutor,
         setting: ServerSetting,
-        opened: OpenLog<L>,
+        state: StateAndLog<L>,
     ) -> Result<DurableServer<L, H, J>, NoMemory>
-        requires log { opened ≡ J.book }
-        requires lines { executor.lines ≡ [] }
-        requires named { names ≡ J.opening.names }
-        requires begins { J.opening.begins (server_state executor) }
+        requires log { state.log ≡ J.book }
+        requires lines { state.executor.lines ≡ [] }
+        requires named { state.names ≡ J.opening.names }
+        requires led { state.leader ≡ J.opening.leader }
+        requires begins { J.opening.begins (server_state state.executor) }
     {
+        let StateAndLog {
+            names,
+            executor,
+            log,
+            leader,
+        } = state;
         let registry = SessionRegistry::new(alloc, executor.executor().world().shape())?;
         let clients = clients_of(executor.executor().world());
         let notes = WorkerNotes::new(alloc, clients)?;
-        let (appender, commits) = opened.split::<J>(alloc);
+        let (appender, commits) = log.split::<J>(alloc);
         Ok(DurableServer {
             alloc,
             names,
+            leader,
             clients,
             registry,
             due: CheckpointPolicy::after_sections(setting.sections),
@@ -277,13 +297,11 @@ impl<L: LogStore, H: CloseHandle, J: ServerTag> DurableServer<L, H, J> {
     {
         let mut executor = self.executor.lock(rt);
         executor.count_seconds(rt);
-        write_lookup(
-            out,
-            &self.names,
-            executor.executor(),
-            look,
-            executor.notes(),
-        )?;
+        let notes = StatusNotes {
+            workers: executor.notes(),
+            leader: &self.leader,
+        };
+        write_lookup(out, &self.names, executor.executor(), look, &notes)?;
         Ok(executor.position_after(session))
     }
 }

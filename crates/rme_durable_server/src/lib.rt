@@ -21,7 +21,8 @@ mod session;
 mod waiting_jobs;
 mod worker_choice;
 
-pub use durable_server::{DurableServer, ServerSetting};
+pub use durable_server::{DurableServer, ServerSetting, StateAndLog};
 pub use rme_durable_log::{LogStore, NotDurable};
+pub use rme_durable_lookups::LeaderNote;
 pub use session::ServerTag;
 pub use waiting_jobs::WaitingJobs;

@@ -12,7 +12,7 @@ use std::marker::{Brand, Model};
 pub trait ServerTag: LogTag {
     ghost use Rattle.rme_durable_server.specs.ServerHistories.{ServerOpening};
 
-    // The names of the locks, and the state with which the server begins.
+    // The names of the locks, who leads the log, and the state with which the server begins.
     ghost opening: { ServerOpening };
 }
 

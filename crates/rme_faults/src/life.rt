@@ -1,6 +1,6 @@
 //! The lives of a server in a simulation.
 
-ghost use Rattle.std.specs.Prelude.{◌≡◌, [], IfOk, true};
+ghost use Rattle.std.specs.Prelude.{◌≡◌, [], IfOk, None, true};
 ghost use Rattle.rme_durable_server.specs.ServerHistories.{server_state};
 
 use crate::client::CloseFlag;
@@ -11,11 +11,10 @@ use crate::plan::{Plan, Sizes};
 use crate::run::{LifeEnd, Run, count};
 use crate::stage::ScriptedStage;
 use rme_cli_messages::CliFault;
-use rme_durable_epochs::EpochExecutor;
 use rme_durable_file::{OpenedState, RecoveredFile, StateFile, StateName};
 use rme_durable_log::OpenLog;
 use rme_durable_lookups::clients_of;
-use rme_durable_server::{DurableServer, ServerSetting, ServerTag, WaitingJobs};
+use rme_durable_server::{DurableServer, ServerSetting, ServerTag, StateAndLog, WaitingJobs};
 use rme_faults_model::{MOST_LOCKS, is_or, lock_text};
 use rme_line_diagnose::Reason;
 use rme_session_loop::{LocalClient, SessionEvent, session};
@@ -42,6 +41,9 @@ pub struct ServerLifeContext<'a, R> {
     pub closed: &'a [Cell<bool>],
 }
 
+/// A state with the log that is opened over its file.
+type SimulatedState<'a> = StateAndLog<StateFile<'a, SimulatedFile<'a>>>;
+
 /// Watches nothing.
 struct NoObserver;
 
@@ -57,24 +59,18 @@ impl ServerObserver for NoObserver {
     fn second_passed(&self) {}
 }
 
-/// A state with the log that is opened over its file.
-#[derive(Drop)]
-struct StateWithLog<'a> {
-    names: Names,
-    executor: EpochExecutor,
-    log: OpenLog<StateFile<'a, SimulatedFile<'a>>>,
-}
-
 /// A state with a log over its file.
-fn state_with_log<'a>(opened: OpenedState<'a, SimulatedFile<'a>>) -> StateWithLog<'a>
+fn state_with_log<'a>(opened: OpenedState<'a, SimulatedFile<'a>>) -> SimulatedState<'a>
     requires works { opened.file.works ≡ true }
     ensures names { result.names ≡ opened.entry.names }
     ensures executor { result.executor ≡ opened.entry.executor }
+    ensures leader { result.leader ≡ None }
 {
-    StateWithLog {
+    StateAndLog {
         names: opened.names,
         executor: opened.executor,
         log: OpenLog::new(opened.file),
+        leader: None,
     }
 }
 
@@ -207,22 +203,18 @@ fn setting_of(plan: &Plan) -> ServerSetting {
 /// Makes a server of a state, with a tag for its log and its opening, and plays its life.
 fn serve_logged<'a, J: ServerTag, R: Wait>(
     life_context: &ServerLifeContext<'a, R>,
-    state: StateWithLog<'a>,
+    state: SimulatedState<'a>,
     run: Run<'a>,
 ) -> Result<Run<'a>, SimulationFailure>
     requires log { state.log ≡ J.book }
     requires lines { state.executor.lines ≡ [] }
     requires named { state.names ≡ J.opening.names }
+    requires led { state.leader ≡ J.opening.leader }
     requires begins { J.opening.begins (server_state state.executor) }
 {
-    let StateWithLog {
-        names,
-        executor,
-        log,
-    } = state;
     let setting = setting_of(&run.plan);
     let server = DurableServer::<StateFile<'a, SimulatedFile<'a>>, CloseFlag<'a>, J>::new(
-        run.alloc, names, executor, setting, log,
+        run.alloc, setting, state,
     )?;
     if server
         .withdraw_waiting_jobs(life_context.runtime, &NoObserver)

@@ -1,4 +1,4 @@
-use Rattle.std.proofs.Common.{◌≡◌}
+use Rattle.std.proofs.Common.{◌≡◌, None}
 use Rattle.rme_durable_server.specs.ServerHistories.{ServerState, server_state}
 use Rattle.rme_faults.proofs.life.live.Given as goal
 
@@ -7,4 +7,4 @@ abbrev pub ghosts-serve_logged-J-LogTag : goal.ghosts-serve_logged-J-LogTag
 ghosts-serve_logged-J-LogTag g a = record { book = a.state.log }
 
 abbrev pub ghosts-serve_logged-J-ServerTag : goal.ghosts-serve_logged-J-ServerTag
-ghosts-serve_logged-J-ServerTag g a = record { opening = record { names = a.state.names; begins = λ (start : ServerState). start ≡ server_state a.state.executor } }
+ghosts-serve_logged-J-ServerTag g a = record { opening = record { names = a.state.names; leader = None; begins = λ (start : ServerState). start ≡ server_state a.state.executor } }

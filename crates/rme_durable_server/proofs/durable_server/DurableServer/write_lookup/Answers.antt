@@ -10,6 +10,7 @@ use Rattle.rme_durable_server.proofs.durable_server.DurableServer.write_lookup.G
 pub returns-clause-moment : goal.returns-clause-moment
 returns-clause-moment g c =
     let epoch = c.deref-3.result.now in
-    let S = λ (e : EpochState). LookupShows c.args.self.now.names (shown_state (server_state e)) c.args.look (string_bytes c.write_lookup.new.out) in
-    shown_at c.position_after.result g.J.ServerTag.opening c.args.self.now.names (server_state epoch) c.args.look (string_bytes c.write_lookup.new.out) c.args.self.now.named c.position_after.ensures.leads
-    (subst S (c.executor.ensures ∙ (c.deref.ensures ∙ sym c.deref-3.ensures)) c.in_ok-write_lookup.ensures)
+    let server = c.args.self.now in
+    let S = λ (e : EpochState). LookupShows server.names server.leader (shown_state (server_state e)) c.args.look (string_bytes c.write_lookup.new.out) in
+    shown_at c.position_after.result g.J.ServerTag.opening server.names server.leader (server_state epoch) c.args.look (string_bytes c.write_lookup.new.out) server.named server.led c.position_after.ensures.leads
+    (subst S (c.executor.ensures ∙ (c.deref-2.ensures ∙ sym c.deref-3.ensures)) c.in_ok-write_lookup.ensures)

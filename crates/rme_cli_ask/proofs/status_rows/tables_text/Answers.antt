@@ -2,7 +2,7 @@ use Rattle.std.proofs.Common.{◌≡◌, string_bytes, rules}
 use Rattle.rme_cli_ask.specs.StatusRows.{lock_rows, worker_rows}
 use Rattle.rme_cli_ask.specs.Tables.{rows_view}
 use Rattle.rme_cli_ask.proofs.MoreRows.{two_tables}
-use Rattle.rme_cli_ask.proofs.status_rows.status_text.Goals as goal
+use Rattle.rme_cli_ask.proofs.status_rows.tables_text.Goals as goal
 
 pub returns : goal.returns
 returns c =
