@@ -8,6 +8,7 @@ use Rattle.serde_json.specs.declared.value.Value.{Value}
 use Rattle.rme_ask_client.specs.JobAnswers.{stance_member, reported_stance_word}
 use Rattle.rme_ask_client.specs.Members.{LockNameSays, flag_member, number_member, some_member, text_member}
 use Rattle.rme_ask_client.specs.declared.status_answer.CellsAnswer.{CellsAnswer}
+use Rattle.rme_ask_client.specs.declared.status_answer.ReportedLeader.{ReportedLeader}
 use Rattle.rme_ask_client.specs.declared.status_answer.ReportedLock.{ReportedLock}
 use Rattle.rme_ask_client.specs.declared.status_answer.ServerStatus.{ServerStatus}
 use Rattle.rme_ask_client.specs.declared.status_answer.ReportedWorker.{ReportedWorker}
@@ -80,8 +81,18 @@ pub record WorkerSays (said : Data) (worker : ReportedWorker) : Type 0 where
   -- the name that its client gave
   pub client : OptionalTextSays (codes "as") said worker.client
 
--- the answer to `status`: every lock and every worker, in order
+pub record LeaderSays (said : Data) (leader : ReportedLeader) : Type 0 where
+  pub address : text_member (codes "leader") said ≡ Some (string_bytes leader.address)
+  pub term : number_member (codes "term") said ≡ Some leader.term
+
+-- who leads the log, where no member is that the server does not tell it
+abbrev pub OptionalLeaderSays : Data → Option ReportedLeader → Type 0
+OptionalLeaderSays answer None = some_member (codes "leader") answer ≡ None
+OptionalLeaderSays answer (Some leader) = LeaderSays answer leader
+
+-- the answer to `status`: who leads the log, and every lock and every worker, in order
 pub record StatusSays (answer : Data) (status : ServerStatus) : Type 0 where
   pub epoch : number_member (codes "epoch") answer ≡ Some status.epoch
+  pub leader : OptionalLeaderSays answer status.leader
   pub locks : ListSays (codes "locks") LockSays answer status.locks.items
   pub workers : ListSays (codes "workers") WorkerSays answer status.workers.items

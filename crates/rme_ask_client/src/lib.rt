@@ -27,6 +27,6 @@ pub use job_answers::{
 pub use request::{ClientRequest, CreateRequest, push_request};
 pub use space_answers::{SpacesPage, spaces_page};
 pub use status_answer::{
-    CellsAnswer, ReportedLock, ReportedWorker, ServerStatus, cells_answer, owner_answer,
-    server_status,
+    CellsAnswer, ReportedLeader, ReportedLock, ReportedWorker, ServerStatus, cells_answer,
+    owner_answer, server_status,
 };

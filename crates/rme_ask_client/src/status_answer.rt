@@ -17,9 +17,20 @@ use std::alloc::Global;
 pub struct ServerStatus {
     /// The number of checkpoints.
     pub epoch: u64,
+    /// Who leads the log; `None` if the server does not tell it, as where no other server may claim its log.
+    pub leader: Option<ReportedLeader>,
     pub locks: Vec<ReportedLock>,
     /// The workers, from number 0.
     pub workers: Vec<ReportedWorker>,
+}
+
+/// Who leads the log of a server, in the answer to `status`.
+#[derive(Drop)]
+pub struct ReportedLeader {
+    /// The address that the leader gave, of any characters.
+    pub address: String,
+    /// The number of its claim of the log.
+    pub term: u64,
 }
 
 /// A lock in the answer to `status`.
@@ -81,16 +92,31 @@ pub fn cells_answer(alloc: Global, value: &Value) -> Result<CellsAnswer, ClientE
     })
 }
 
-/// The locks and workers of the answer to `status`.
+/// What the answer to `status` says.
 pub fn server_status(alloc: Global, value: &Value) -> Result<ServerStatus, ClientError>
     ensures said { IfOk result (spec.StatusSays (view value.now)) }
     ensures unsaid { IfErr result (NoneSaidUnless spec.StatusSays (view value.now)) }
 {
     Ok(ServerStatus {
         epoch: number(value, "epoch")?,
+        leader: leader_of_log(alloc, value)?,
         locks: list_of(alloc, value, "locks")?,
         workers: list_of(alloc, value, "workers")?,
     })
+}
+
+/// Who leads the log of the server.
+fn leader_of_log(alloc: Global, value: &Value) -> Result<Option<ReportedLeader>, ClientError>
+    ensures said { IfOk result (spec.OptionalLeaderSays (view value.now)) }
+    ensures unsaid { IfErr result (NoneSaidUnless spec.OptionalLeaderSays (view value.now)) }
+{
+    if value.get("leader").is_none() {
+        return Ok(None);
+    }
+    Ok(Some(ReportedLeader {
+        address: string(alloc, value, "leader")?,
+        term: number(value, "term")?,
+    }))
 }
 
 /// A value that an item of a list in an answer gives.

@@ -7,13 +7,13 @@ use Rattle.rme_ask_client.specs.declared.request.ClientRequest.{ClientRequest}
 use Rattle.rme_ask_client.specs.declared.request.ClientRequest.TheVariants.{Status, Owner, Cells, CreateSpace, DropSpace}
 use Rattle.rme_ask_client.specs.declared.status_answer.CellsAnswer.{CellsAnswer}
 use Rattle.rme_ask_client.specs.declared.status_answer.ServerStatus.{ServerStatus}
-use Rattle.rme_cli_ask.specs.StatusRows.{cells_rows, owner_rows, status_tables_text}
+use Rattle.rme_cli_ask.specs.StatusRows.{cells_rows, owner_rows, status_text}
 use Rattle.rme_cli_ask.specs.Tables.{table_text}
 
 pub record ShowsStatus (answer : Data) (text : List ℕ) : Type 0 where
   pub status : ServerStatus
   pub says : StatusSays answer status
-  pub shows : text ≡ status_tables_text status
+  pub shows : text ≡ status_text status
 
 pub record ShowsOwner (lock : List ℕ) (answer : Data) (text : List ℕ) : Type 0 where
   pub owner : Option ℕ

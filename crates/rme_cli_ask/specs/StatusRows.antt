@@ -1,4 +1,4 @@
--- The rows of the tables of locks and workers.
+-- The line about the leader, and the rows of the tables of locks and workers.
 use Rattle.std.specs.Prelude.{ℕ, ◌&&◌, Bool, true, false, List, [], ◌∷◌, ◌++◌, codes, decimal, if◌then◌else◌, Option, Some, None, slice_get, string_bytes, String}
 use Rattle.std.specs.List.{flat_map}
 use Rattle.std.specs.Str.{bytes_eq}
@@ -7,6 +7,7 @@ use Rattle.rme_ask_client.specs.JobAnswers.{reported_stance_word}
 use Rattle.rme_ask_client.specs.declared.job_answers.ReportedStance.{ReportedStance}
 use Rattle.rme_ask_client.specs.declared.job_answers.ReportedStance.TheVariants.{Ready, Climb, Held}
 use Rattle.rme_ask_client.specs.declared.status_answer.CellsAnswer.{CellsAnswer}
+use Rattle.rme_ask_client.specs.declared.status_answer.ReportedLeader.{ReportedLeader}
 use Rattle.rme_ask_client.specs.declared.status_answer.ReportedLock.{ReportedLock}
 use Rattle.rme_ask_client.specs.declared.status_answer.ServerStatus.{ServerStatus}
 use Rattle.rme_ask_client.specs.declared.status_answer.ReportedWorker.{ReportedWorker}
@@ -112,6 +113,16 @@ worker_rows workers = worker_header ∷ numbered_rows worker_row 0 workers
 abbrev pub status_tables_text : ServerStatus → List ℕ
 status_tables_text status =
     table_text (lock_rows status) ++ (codes "\n" ++ table_text (worker_rows status.workers.items))
+
+-- the line that says who leads the log, and an empty one; nothing where the server does not tell it
+abbrev pub leader_line : Option ReportedLeader → List ℕ
+leader_line None = []
+leader_line (Some leader) =
+    codes "leader " ++ (escaped_text (string_bytes leader.address) ++ (codes " term " ++ (decimal leader.term ++
+    codes "\n\n")))
+
+abbrev pub status_text : ServerStatus → List ℕ
+status_text status = leader_line status.leader ++ status_tables_text status
 
 abbrev pub owner_rows : List ℕ → Option ℕ → List (List (List ℕ))
 owner_rows lock owner = lock_table lock (codes "OWNER") (owner_cell owner)

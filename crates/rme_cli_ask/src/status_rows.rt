@@ -1,4 +1,4 @@
-//! The rows of the tables of locks and workers.
+//! The line about the leader, and the rows of the tables of locks and workers.
 
 ghost use Rattle.std.specs.Prelude.{◌≡◌, ◌++◌, IfOk, OnOk, count_by, string_bytes};
 ghost use Rattle.std.specs.List.{flat_map};
@@ -8,15 +8,38 @@ ghost use Rattle.rme_cli_ask.specs.StatusRows as spec;
 use crate::age::Age;
 use crate::rows::{RowOf, rows_of, rows_of_lock};
 use crate::table::push_table;
-use rme_ask_client::{CellsAnswer, ReportedLock, ReportedStance, ReportedWorker, ServerStatus};
+use rme_ask_client::{
+    CellsAnswer, ReportedLeader, ReportedLock, ReportedStance, ReportedWorker, ServerStatus,
+};
 use rme_cli_messages::escape_controls;
 use std::alloc::{AllocError, Global};
 
 /// The cell of a value that is missing.
 pub(crate) const NOTHING: &str = "-";
 
-/// The tables of locks and of workers.
+/// The line about the leader, and the tables of locks and of workers.
 pub(crate) fn status_text(alloc: Global, status: &ServerStatus) -> Result<String, AllocError>
+    ensures { IfOk result (λ text. string_bytes text ≡ spec.status_text status.now) }
+{
+    let leader = leader_line(alloc, &status.leader)?;
+    let tables = tables_text(alloc, status)?;
+    format!(in alloc; "{leader}{tables}")
+}
+
+/// The line that says who leads the log, and an empty one; nothing where the server does not tell it.
+fn leader_line(alloc: Global, leader: &Option<ReportedLeader>) -> Result<String, AllocError>
+    ensures { IfOk result (λ text. string_bytes text ≡ spec.leader_line leader.now) }
+{
+    let Some(leader) = leader else {
+        return Ok(String::new(alloc));
+    };
+    let address = escape_controls(alloc, leader.address.as_str())?;
+    let term = leader.term;
+    format!(in alloc; "leader {address} term {term}\n\n")
+}
+
+/// The tables of locks and of workers.
+fn tables_text(alloc: Global, status: &ServerStatus) -> Result<String, AllocError>
     ensures { IfOk result (λ text. string_bytes text ≡ spec.status_tables_text status.now) }
 {
     let mut text = String::new(alloc);

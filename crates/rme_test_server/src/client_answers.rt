@@ -74,6 +74,7 @@ fn look_ups_are_read(rt: HostRuntime) -> Result<(), Fail> {
     };
     let status = server_status(alloc, &value)?;
     assert!(rt; status.epoch == 4 && status.locks.len() == 1 && status.workers.len() == 3);
+    assert!(rt; status.leader.is_none());
     assert_eq!(rt; status.locks[0].cells.as_slice(), [5, 7].as_slice());
     assert!(rt; status.locks[0].owner == Some(1) && !status.locks[0].settled);
     assert!(rt; status.workers[0].attached && status.workers[0].lock.is_none());
@@ -95,6 +96,31 @@ fn look_ups_are_read(rt: HostRuntime) -> Result<(), Fail> {
         return Err(Fail::from("cells"));
     };
     assert!(rt; cells_answer(alloc, &value)?.settled);
+    Ok(())
+}
+
+#[test]
+fn a_leader_is_read(rt: HostRuntime) -> Result<(), Fail> {
+    let alloc = rt.alloc();
+    let told =
+        b"{\"epoch\":0,\"leader\":\"host7:1\\u001b\",\"locks\":[],\"ok\":\"status\",\"term\":7,\"workers\":[]}\n";
+    let ServerAnswer::Accepted(value) = answer_to(alloc, ClientRequest::Status, told)? else {
+        return Err(Fail::from("status"));
+    };
+    let Some(leader) = server_status(alloc, &value)?.leader else {
+        return Err(Fail::from("leader"));
+    };
+    assert_eq!(rt; leader.address.as_str(), "host7:1\u{1b}");
+    assert_eq!(rt; leader.term, 7);
+    let told =
+        b"{\"epoch\":0,\"leader\":\"host7:1\",\"locks\":[],\"ok\":\"status\",\"workers\":[]}\n";
+    let ServerAnswer::Accepted(value) = answer_to(alloc, ClientRequest::Status, told)? else {
+        return Err(Fail::from("status"));
+    };
+    assert_eq!(rt;
+        server_status(alloc, &value).err(),
+        Some(ClientError::NoMember("term"))
+    );
     Ok(())
 }
 
