@@ -65,7 +65,7 @@ const PAGE_END: &str = "</script>\n</body>\n</html>\n";
 
 /// The policy of the page: its own style and script, and requests to its own server.
 pub(crate) const PAGE_POLICY: &str =
-    "default-src 'none'; style-src 'sha256-4zfyUYi+AaYzqt4LxU54w3QcyWrhMu40BHZgd1XzfI4='; script-src 'sha256-ZrDy9RxQmaZi4XFC3WVGxvH4llxfQSLLzUM8C74QStA='; connect-src 'self'; base-uri 'none'; form-action 'none'; frame-ancestors 'none'";
+    "default-src 'none'; style-src 'sha256-F8TNlhTeDMjIz32Iv4ioxOUPzrv8B5rDqk9yZcn5nWg='; script-src 'sha256-sRO47Qp7qBtly6esQvpLfd6TvlUUSbOhthP3w840r0c='; connect-src 'self'; base-uri 'none'; form-action 'none'; frame-ancestors 'none'";
 
 /// The page.
 pub(crate) fn page(alloc: Global) -> Result<String, AllocError>

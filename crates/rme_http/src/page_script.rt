@@ -252,7 +252,8 @@ function show(status, now) {
   workers = status.workers.map((w, id) => Object.assign({ id }, w));
   const perLock = measure(status, now);
   heard = now;
-  at("epoch").textContent = (space ? "space " + space + ", " : "") + "epoch " + status.epoch;
+  at("epoch").textContent = (space ? "space " + space + ", " : "") + "epoch " + status.epoch
+    + (status.leader === undefined ? "" : ", leader " + status.leader + ", term " + status.term);
   showFinish();
   showLocks(status.locks, perLock);
   showWaiting();

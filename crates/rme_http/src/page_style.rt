@@ -10,7 +10,7 @@ pub(crate) const PAGE_STYLE: &str = r##"
 * { box-sizing: border-box; }
 body { margin: 0 auto; max-width: 1280px; padding: 16px; background: var(--back); color: var(--text);
   font: 16px/1.45 system-ui, "DejaVu Sans", sans-serif; }
-header { display: flex; flex-wrap: wrap; gap: 4px 16px; align-items: baseline; }
+header { display: flex; flex-wrap: wrap; gap: 4px 16px; align-items: baseline; overflow-wrap: anywhere; }
 h1 { font-size: 1.35rem; margin: 0; }
 h2 { font-size: 1.05rem; margin: 24px 0 8px; }
 p { margin: 4px 0; }
