@@ -37,6 +37,12 @@ def status_in(engines, **options):
     return json.loads(ran.stdout) if ran.returncode == 0 else (ran.returncode, ran.stderr)
 
 
+def split_leader(status):
+    """A server's status without who leads its log, and that: the address, and the term."""
+    others = {name: value for name, value in status.items() if name not in ("leader", "term")}
+    return others, (status.get("leader"), status.get("term"))
+
+
 def lines_in(engines, **options):
     """The log as the bytes of a state file; or how `rme look` ended."""
     ran = looked(engines, "--lines", **options)

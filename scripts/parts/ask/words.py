@@ -64,7 +64,8 @@ def try_tables(folder):
 
 
 def try_told(_folder):
-    """Since when a worker's stance is so, and the name that its client gave, as far as the server tells them."""
+    """Since when a worker's stance is so, the name that its client gave, and who leads the log, as far as the server tells
+    them."""
     workers = [
         {"attached": True, "lock": "bank", "number": 3, "seconds": 12, "stance": "held", "as": "host7:cron"},
         {"attached": True, "blocked_by": 0, "lock": "bank", "number": 2, "seconds": 192, "stance": "climb", "as": "\x1b[2J\u00e9"},
@@ -73,9 +74,13 @@ def try_told(_folder):
         {"attached": False, "number": 0, "stance": "ready"},
     ]
     locks = [{"cells": [5], "name": "bank", "owner": 0, "sections": 2, "settled": True}]
-    line = json.dumps({"epoch": 0, "locks": locks, "ok": "status", "workers": workers}).encode() + b"\n"
+    status = {"epoch": 0, "locks": locks, "ok": "status", "workers": workers}
+    line = json.dumps(status).encode() + b"\n"
     server = StandIn(line)
     same("status", ask(server, "status"), (0, TOLD, ""))
+    server.end()
+    server = StandIn(json.dumps({**status, "leader": "host7:7000\x1b[2J", "term": 7}).encode() + b"\n")
+    same("a leader", ask(server, "status"), (0, "leader host7:7000\\u{1b}[2J term 7\n\n" + TOLD, ""))
     server.end()
     server = StandIn(line)
     same("top", ask(server, "top", "--count", "1"), (0, TOP, ""))

@@ -33,7 +33,8 @@ def status_of(began):
             {"cells": [1], "name": "bank", "owner": 2, "sections": 120, "settled": False},
             {"cells": [1], "name": "shop", "owner": 5, "sections": sections, "settled": False},
         ]
-        return {"epoch": 3, "locks": locks, "ok": "status", "workers": workers}
+        leader = {"leader": MARKUP, "term": 7}
+        return {"epoch": 3, **leader, "locks": locks, "ok": "status", "workers": workers}
 
     return status
 
@@ -58,6 +59,10 @@ def try_dead(browser):
     names = "[...document.querySelectorAll('#locks tr.lock button')].map((it) => it.textContent).join()"
     same("the locks, dead owners first", browser.value(names), "bank,shop,stock")
     same("names are text", browser.value("document.querySelectorAll('b, img').length"), 0)
+
+
+def try_leader(browser):
+    same("the epoch, who leads, and the term", browser.value(text_at("#epoch")), f"epoch 3, leader {MARKUP}, term 7")
 
 
 def try_live(browser):
@@ -118,6 +123,7 @@ def try_page(folder):
         browser.open(f"http://127.0.0.1:{server.port}/")
         check("it shows a status", browser.holds_within(text_at("#live") + " === 'live'"))
         try_dead(browser)
+        try_leader(browser)
         try_live(browser)
         try_keyboard(browser)
         try_looks(browser, folder)

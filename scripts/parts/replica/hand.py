@@ -9,7 +9,7 @@ from lib.clusters import Cluster, main_with_etcd
 from lib.kept import end_of, faults_of, kill, look, looked, read, serve
 from lib.orders import COMMIT, ONE, STATUS, attach, job, receipt, stands, text, without_seconds
 from lib.programs import ends_with, run
-from lib.replicas import LOG, Replica, Worker, lines_in, log_faults, status_in
+from lib.replicas import LOG, Replica, Worker, lines_in, log_faults, split_leader, status_in
 from lib.replicas import looked as looked_log
 
 SIZES = {"workers": 2, "cells": 2, "jobs": 10}
@@ -37,7 +37,13 @@ def try_first(folder):
         wanted = stands("ready", 0), text(ok="submit", receipt=receipt(0, 1, "bank", 0, 5))
         same("a job, and one that is inside", told[:2], list(wanted))
         check("inside", b'"stance":"held"' in told[2], told)
-        same("it is in the log", status_in(cluster.engines), without_seconds(first.session().told(**STATUS)))
+        shown = first.session().told(**STATUS)
+        same("the members of status", list(shown), ["epoch", "leader", "locks", "ok", "term", "workers"])
+        status, leader = split_leader(shown)
+        same("it is in the log", status_in(cluster.engines), without_seconds(status))
+        same("status names the leader", leader, (first.address, 1))
+        asked = run(["ask", "--port", str(first.port), "status"]).stdout
+        same("so does ask", asked.split(b"\n")[:2], [b"leader %s term 1" % first.address.encode(), b""])
         same("so says the head", {key: cluster.head()[key] for key in ("addr", "epoch", "term")}, {"addr": first.address, "epoch": 0, "term": 1})
         same("look names the leader", leader_in(cluster.engines), (first.address, 1, cluster.head()["seq"]))
         second = Replica(cluster.engines, "bank", "shop", quiet=1, **SIZES)
@@ -46,6 +52,7 @@ def try_first(folder):
         first.kill()
         check("it takes over", second.leads(), second.told())
         session = second.session()
+        same("status names another leader", split_leader(session.told(**STATUS))[1], (second.address, 2))
         same("the worker is inside", session.ask(attach(0)), stands("held", 2))
         same("and commits", session.ask(COMMIT), text(ok="commit", receipt=receipt(0, 2, "shop", 0, 1)))
         same("look names another leader", leader_in(cluster.engines)[:2], (second.address, 2))

@@ -14,8 +14,7 @@ from lib.clusters import Cluster, main_with_etcd
 from lib.gateways import Gateway
 from lib.holds import environment
 from lib.orders import LAST, ONE, STATUS, attach, job
-from lib.programs import built
-from lib.replicas import Replica, Worker, log_faults, status_in
+from lib.replicas import Replica, Worker, log_faults, split_leader, status_in
 from lib.servers import line_of
 
 QUIET, SLACK = 1, 1.5  # seconds
@@ -108,6 +107,9 @@ def try_take(folder):
             same("the first one has ended", status, 4)
             check("and says why", new.address.encode() in told, told)
             check("the jobs go on", worker.work(new) and not worker.wrong, worker.wrong)
+            leader = split_leader(new.session().told(**STATUS))[1]
+            same("status names the second one", leader, (new.address, cluster.head()["term"]))
+            check("in a later term", leader[1] > 1, leader)
 
 
 def try_take_busy(folder):
