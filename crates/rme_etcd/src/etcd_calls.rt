@@ -46,10 +46,11 @@ impl CallLimits {
         ensures whole { as_nanos one_try ≤ as_nanos patience / 8 → result.one_try ≡ one_try }
     {
         let call = patience / STORE_TRIES;
-        CallLimits {
-            one_try: if call < one_try { call } else { one_try },
-            call,
-        }
+        let one_try = match call.checked_sub(one_try) {
+            Some(_) => one_try,
+            None => call,
+        };
+        CallLimits { one_try, call }
     }
 }
 
