@@ -12,7 +12,7 @@ use rme_etcd::EtcdEngine;
 use rme_replica::{Head, LogEngine};
 
 /// The number of looks, a tenth of a second apart, after which a log without a change counts as led by no server.
-const LOOKS: u32 = 15;
+const LOOKS: u32 = 20;
 
 /// Prints the contents of a file or of a log in a cluster, and answers the status.
 pub fn run_any_look(rt: &HostRuntime, task: LookTask) -> Result<u8, CliFault> {

@@ -47,8 +47,8 @@ impl LogStore for ClusterLog<'_> {
     }
 }
 
-/// A state whose log was claimed by this leader, with this log, which no append has asked since then. If there are
-/// counters, its writes are counted.
+/// A state whose log was claimed by this leader, with this log, to which nothing was appended since then. Its writes are
+/// counted if counters are given.
 pub(crate) fn state_and_cluster_log<'a>(
     rt: &'a HostRuntime,
     counters: Option<&'a LogCounters>,

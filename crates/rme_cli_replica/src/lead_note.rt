@@ -16,8 +16,8 @@ pub(crate) enum LeadOutcome {
     Lost(EtcdFault),
 }
 
-/// What the last call of a log answered, the term in which this server adds to it, and how many bytes it has. The log is
-/// with the thread that writes to it; any thread may ask here.
+/// The outcome of the last call of a log, the term in which this server adds to it, and the number of its bytes. One
+/// thread has the log and writes to it; every thread may read this note.
 #[derive(Drop)]
 pub(crate) struct LeadNote {
     /// It is locked for no longer than a copy takes.

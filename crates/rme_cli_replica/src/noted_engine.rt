@@ -5,8 +5,8 @@ use rme_etcd::{EtcdEngine, EtcdFault};
 use rme_replica::{Added, Head, LogEngine, Lost};
 use std::alloc::Global;
 
-/// The engine of a log in a cluster. It notes what its last call answered, and the term of its last add. After each claim
-/// and each checkpoint it deletes what other epochs left.
+/// The engine of a log in a cluster. It notes the outcome of its last call, and the term of its last add. After each claim
+/// and each checkpoint it deletes the records of other epochs.
 #[derive(Drop)]
 pub(crate) struct NotedEngine<'a> {
     pub(crate) engine: EtcdEngine,

@@ -14,7 +14,8 @@ from lib.clusters import Cluster, main_with_etcd
 from lib.gateways import Gateway
 from lib.holds import environment
 from lib.orders import LAST, ONE, STATUS, attach, job
-from lib.replicas import Replica, Worker, log_faults, split_leader, status_in
+from lib.programs import built
+from lib.replicas import Replica, Worker, log_faults, looked, split_leader, status_in
 from lib.servers import line_of
 
 QUIET, SLACK = 1, 1.5  # seconds
@@ -271,5 +272,7 @@ def try_never_back(folder):
 
 
 def part():
-    groups = try_taking_over, try_at_once, try_take, try_take_busy, try_programs, try_stopped, try_cut_off, try_never_back
+    groups = (
+        try_taking_over, try_idle, try_at_once, try_take, try_take_busy, try_programs, try_stopped, try_cut_off, try_never_back,
+    )  # fmt: skip
     main_with_etcd(*groups, minutes=3)
