@@ -100,31 +100,6 @@ fn look_ups_are_read(rt: HostRuntime) -> Result<(), Fail> {
 }
 
 #[test]
-fn a_leader_is_read(rt: HostRuntime) -> Result<(), Fail> {
-    let alloc = rt.alloc();
-    let told =
-        b"{\"epoch\":0,\"leader\":\"host7:1\\u001b\",\"locks\":[],\"ok\":\"status\",\"term\":7,\"workers\":[]}\n";
-    let ServerAnswer::Accepted(value) = answer_to(alloc, ClientRequest::Status, told)? else {
-        return Err(Fail::from("status"));
-    };
-    let Some(leader) = server_status(alloc, &value)?.leader else {
-        return Err(Fail::from("leader"));
-    };
-    assert_eq!(rt; leader.address.as_str(), "host7:1\u{1b}");
-    assert_eq!(rt; leader.term, 7);
-    let told =
-        b"{\"epoch\":0,\"leader\":\"host7:1\",\"locks\":[],\"ok\":\"status\",\"workers\":[]}\n";
-    let ServerAnswer::Accepted(value) = answer_to(alloc, ClientRequest::Status, told)? else {
-        return Err(Fail::from("status"));
-    };
-    assert_eq!(rt;
-        server_status(alloc, &value).err(),
-        Some(ClientError::NoMember("term"))
-    );
-    Ok(())
-}
-
-#[test]
 fn pages_of_spaces_are_read(rt: HostRuntime) -> Result<(), Fail> {
     let alloc = rt.alloc();
     let told = b"{\"more\":true,\"ok\":\"spaces\",\"spaces\":[\"a\",\"b\\u001b\"]}\n";
