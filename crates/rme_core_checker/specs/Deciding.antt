@@ -22,54 +22,34 @@ use Rattle.rme_machine.specs.Machine.{MachineState, WorkerState, stance_after_cr
 
 abbrev pub is_idle : JobStance → Bool
 is_idle stance.Idle = true
-is_idle (stance.Handed job) = false
-is_idle (stance.Waiting k job) = false
-is_idle (stance.Inside k job) = false
-is_idle (stance.Finished k job) = false
+is_idle _ = false
 
 abbrev pub is_handed : JobStance → Bool
-is_handed stance.Idle = false
 is_handed (stance.Handed job) = true
-is_handed (stance.Waiting k job) = false
-is_handed (stance.Inside k job) = false
-is_handed (stance.Finished k job) = false
+is_handed _ = false
 
 abbrev pub is_waiting : JobStance → Bool
-is_waiting stance.Idle = false
-is_waiting (stance.Handed job) = false
 is_waiting (stance.Waiting k job) = true
-is_waiting (stance.Inside k job) = false
-is_waiting (stance.Finished k job) = false
+is_waiting _ = false
 
 -- Waits under this number, or for this lock.
 abbrev pub is_waiting_under : JobStance → ℕ → Bool
-is_waiting_under stance.Idle number = false
-is_waiting_under (stance.Handed job) number = false
 is_waiting_under (stance.Waiting k job) number = k == number
-is_waiting_under (stance.Inside k job) number = false
-is_waiting_under (stance.Finished k job) number = false
+is_waiting_under _ number = false
 
 abbrev pub is_waiting_for : JobStance → ℕ → Bool
-is_waiting_for stance.Idle lock = false
-is_waiting_for (stance.Handed job) lock = false
 is_waiting_for (stance.Waiting k job) lock = job.lock == lock
-is_waiting_for (stance.Inside k job) lock = false
-is_waiting_for (stance.Finished k job) lock = false
+is_waiting_for _ lock = false
 
 -- Has finished on this lock; or is in its section: inside it or finished.
 abbrev pub is_finished_on : JobStance → ℕ → Bool
-is_finished_on stance.Idle lock = false
-is_finished_on (stance.Handed job) lock = false
-is_finished_on (stance.Waiting k job) lock = false
-is_finished_on (stance.Inside k job) lock = false
 is_finished_on (stance.Finished k job) lock = job.lock == lock
+is_finished_on _ lock = false
 
 abbrev pub is_in_section_of : JobStance → ℕ → Bool
-is_in_section_of stance.Idle lock = false
-is_in_section_of (stance.Handed job) lock = false
-is_in_section_of (stance.Waiting k job) lock = false
 is_in_section_of (stance.Inside k job) lock = job.lock == lock
 is_in_section_of (stance.Finished k job) lock = job.lock == lock
+is_in_section_of _ lock = false
 
 -- ---- tests on the rest
 
@@ -95,13 +75,10 @@ has_outcome place row script receipt = (receipt.place == place) && (receipt.repl
 
 -- The receipt is that of the section that the worker is inside.
 abbrev pub is_section_receipt : Shape → List Entry → ℕ → JobStance → Receipt → Bool
-is_section_receipt shape history worker stance.Idle receipt = false
-is_section_receipt shape history worker (stance.Handed job) receipt = false
-is_section_receipt shape history worker (stance.Waiting k job) receipt = false
 is_section_receipt shape history worker (stance.Inside k job) receipt =
     (receipt.worker == worker) && (receipt.lock == job.lock) && (receipt.number == k) && has_outcome
     (place_of history job.lock) (lock_row shape history job.lock) job.script receipt
-is_section_receipt shape history worker (stance.Finished k job) receipt = false
+is_section_receipt shape history worker _ receipt = false
 
 -- ---- the column "Where"
 
@@ -133,119 +110,45 @@ is_step_admitted shape act old w = may_at (slice_get old.workers w)
 
 -- The next stance, for a stance in which the step begins.
 abbrev pub stance_after_ask : ℕ → JobStance → JobStance
-stance_after_ask number stance.Idle = stance.Idle
 stance_after_ask number (stance.Handed job) = stance.Waiting number job
-stance_after_ask number (stance.Waiting k job) = stance.Waiting k job
-stance_after_ask number (stance.Inside k job) = stance.Inside k job
-stance_after_ask number (stance.Finished k job) = stance.Finished k job
+stance_after_ask number other = other
 
 abbrev pub stance_after_take : JobStance → JobStance
-stance_after_take stance.Idle = stance.Idle
-stance_after_take (stance.Handed job) = stance.Handed job
 stance_after_take (stance.Waiting k job) = stance.Inside k job
-stance_after_take (stance.Inside k job) = stance.Inside k job
-stance_after_take (stance.Finished k job) = stance.Finished k job
+stance_after_take other = other
 
 abbrev pub stance_after_finish : JobStance → JobStance
-stance_after_finish stance.Idle = stance.Idle
-stance_after_finish (stance.Handed job) = stance.Handed job
-stance_after_finish (stance.Waiting k job) = stance.Waiting k job
 stance_after_finish (stance.Inside k job) = stance.Finished k job
-stance_after_finish (stance.Finished k job) = stance.Finished k job
+stance_after_finish other = other
 
 abbrev pub worker_after_act : Act → WorkerState → WorkerState
-worker_after_act (Hand k job) me =
-    record { up = me.up; entered = me.entered; asked = me.asked; withdrawn = me.withdrawn; stance = stance.Handed job }
-worker_after_act (Ask k) me =
-    record {
-      up = me.up;
-      entered = me.entered;
-      asked = k;
-      withdrawn = me.withdrawn;
-      stance = stance_after_ask k
-          me.stance;
-    }
-worker_after_act (Take lock) me =
-    record {
-      up = me.up;
-      entered = true;
-      asked = me.asked;
-      withdrawn = me.withdrawn;
-      stance = stance_after_take
-          me.stance;
-    }
-worker_after_act (Finish receipt) me =
-    record {
-      up = me.up;
-      entered = me.entered;
-      asked = me.asked;
-      withdrawn = me.withdrawn;
-      stance = stance_after_finish
-          me.stance;
-    }
-worker_after_act (Leave lock) me =
-    record { up = me.up; entered = false; asked = me.asked; withdrawn = me.withdrawn; stance = stance.Idle }
-worker_after_act (Withdraw k) me =
-    record {
-      up = me.up;
-      entered = me.entered;
-      asked = me.asked;
-      withdrawn = me.withdrawn ++ k ∷ [];
-      stance =
-          stance.Idle;
-    }
-worker_after_act Crash me =
-    record {
-      up = false;
-      entered = false;
-      asked = me.asked;
-      withdrawn = me.withdrawn;
-      stance = stance_after_crash
-          me.stance;
-    }
-worker_after_act Restart me =
-    record { up = true; entered = me.entered; asked = me.asked; withdrawn = me.withdrawn; stance = me.stance }
-worker_after_act (Reenter lock) me =
-    record { up = me.up; entered = true; asked = me.asked; withdrawn = me.withdrawn; stance = me.stance }
-worker_after_act Still me = me
-worker_after_act Wait me = me
+worker_after_act (Hand k job) me = record me { stance = stance.Handed job }
+worker_after_act (Ask k) me = record me { asked = k; stance = stance_after_ask k me.stance }
+worker_after_act (Take lock) me = record me { entered = true; stance = stance_after_take me.stance }
+worker_after_act (Finish receipt) me = record me { stance = stance_after_finish me.stance }
+worker_after_act (Leave lock) me = record me { entered = false; stance = stance.Idle }
+worker_after_act (Withdraw k) me = record me { withdrawn = me.withdrawn ++ k ∷ []; stance = stance.Idle }
+worker_after_act Crash me = record me { up = false; entered = false; stance = stance_after_crash me.stance }
+worker_after_act Restart me = record me { up = true }
+worker_after_act (Reenter lock) me = record me { entered = true }
+worker_after_act _ me = me
 
 abbrev pub owners_after_act : Act → ℕ → List (Option ℕ) → List (Option ℕ)
-owners_after_act (Hand k job) w owners = owners
-owners_after_act (Ask k) w owners = owners
 owners_after_act (Take lock) w owners = slice_set owners lock (Some w)
-owners_after_act (Finish receipt) w owners = owners
 owners_after_act (Leave lock) w owners = slice_set owners lock None
-owners_after_act (Withdraw k) w owners = owners
-owners_after_act Crash w owners = owners
-owners_after_act Restart w owners = owners
-owners_after_act (Reenter lock) w owners = owners
-owners_after_act Still w owners = owners
-owners_after_act Wait w owners = owners
+owners_after_act _ w owners = owners
 
 -- The entry of a finished section: its receipt, and the script of the job with which the worker was inside.
 abbrev pub stance_script : JobStance → Program
-stance_script stance.Idle = record { n = 0; ops = [] }
-stance_script (stance.Handed job) = record { n = 0; ops = [] }
-stance_script (stance.Waiting k job) = record { n = 0; ops = [] }
 stance_script (stance.Inside k job) = job.script
-stance_script (stance.Finished k job) = record { n = 0; ops = [] }
+stance_script _ = record { n = 0; ops = [] }
 
 abbrev pub entry_of_section : Receipt → JobStance → Entry
 entry_of_section receipt own = record { receipt = receipt; script = stance_script own }
 
 abbrev pub history_after_act : Act → JobStance → List Entry → List Entry
-history_after_act (Hand k job) own history = history
-history_after_act (Ask k) own history = history
-history_after_act (Take lock) own history = history
 history_after_act (Finish receipt) own history = history ++ entry_of_section receipt own ∷ []
-history_after_act (Leave lock) own history = history
-history_after_act (Withdraw k) own history = history
-history_after_act Crash own history = history
-history_after_act Restart own history = history
-history_after_act (Reenter lock) own history = history
-history_after_act Still own history = history
-history_after_act Wait own history = history
+history_after_act _ own history = history
 
 -- The state after a step of a worker whose state is `me`.
 abbrev pub state_after_act : Act → MachineState → ℕ → WorkerState → MachineState
