@@ -3,7 +3,6 @@
 //! Each is a value of `ArgumentSpec`, from which a few functions make clap's arguments, since each function that names
 //! a type of clap takes seconds to check.
 
-use crate::help_texts;
 use clap::{Arg, ArgAction, Command, value_parser};
 use std::alloc::{AllocError, Global};
 
@@ -129,7 +128,7 @@ pub(crate) fn option_of<'a>(
 
 /// The option of the commands that answer lines.
 pub(crate) fn why<'a>() -> ArgumentSpec<'a> {
-    optional("why", ArgumentKind::Flag('w'), help_texts::why_help())
+    optional("why", ArgumentKind::Flag('w'), rme_cli_help::why_help())
 }
 
 /// A command with these texts and arguments.

@@ -1,7 +1,6 @@
 //! Parsing the words after `ask`.
 
 use crate::commands::command;
-use crate::help_texts;
 use crate::parsing::{USUAL_PORT, text_of, texts_of};
 use crate::tasks::{AnswerForm, AskRequest, AskTask, CreateTask, FinishTask, ServerAddress};
 use clap::error::ErrorKind;
@@ -64,7 +63,7 @@ fn ask_request(alloc: Global, found: &ArgMatches<'_>) -> Result<AskRequest, Erro
         (Some("top"), None) => Ok(AskRequest::Top(found.get_one("count"))),
         (Some("spaces"), None) => Ok(AskRequest::Spaces),
         (Some(word), Some(name)) => request_on(alloc, found, word, name),
-        _ => Err(wrong(alloc, help_texts::ask_words_wanted())?),
+        _ => Err(wrong(alloc, rme_cli_help::ask_words_wanted())?),
     }
 }
 
@@ -83,7 +82,7 @@ fn request_on(
         "create" if found.contains_id("LOCK") => {
             Ok(AskRequest::CreateSpace(create_task(alloc, found, name)?))
         }
-        _ => Err(wrong(alloc, help_texts::ask_words_wanted())?),
+        _ => Err(wrong(alloc, rme_cli_help::ask_words_wanted())?),
     }
 }
 
@@ -108,7 +107,7 @@ fn finish_request(
     worker: &str,
 ) -> Result<AskRequest, Error> {
     let Ok(worker) = worker.parse::<u32>() else {
-        return Err(wrong(alloc, help_texts::worker_wanted())?);
+        return Err(wrong(alloc, rme_cli_help::worker_wanted())?);
     };
     Ok(AskRequest::Finish(FinishTask {
         worker,
@@ -121,19 +120,19 @@ fn finish_request(
 /// What is wrong if the words after `ask` have an option or locks that go with another word.
 fn misplaced_option<'a>(word: Option<&str>, found: &ArgMatches<'_>) -> Option<&'a str> {
     if word != Some("finish") && has_finish_option(found) {
-        return Some(help_texts::finish_options_alone());
+        return Some(rme_cli_help::finish_options_alone());
     }
     if word != Some("top") && found.contains_id("count") {
-        return Some(help_texts::count_option_alone());
+        return Some(rme_cli_help::count_option_alone());
     }
     if word == Some("create") {
         return None;
     }
     if found.contains_id("workers") || found.contains_id("cells") {
-        return Some(help_texts::create_options_alone());
+        return Some(rme_cli_help::create_options_alone());
     }
     if found.contains_id("LOCK") {
-        return Some(help_texts::ask_words_wanted());
+        return Some(rme_cli_help::ask_words_wanted());
     }
     None
 }

@@ -1,7 +1,6 @@
 //! Parsing a log in a cluster: the word `etcd:NAME`, and the options beside it.
 
 use crate::commands::command;
-use crate::help_texts;
 use crate::parsing::{text_of, texts_of};
 use crate::tasks::{EtcdLogin, EtcdPlace, LeaderSetting, MoveDirection, MoveTask};
 use clap::error::ErrorKind;
@@ -47,14 +46,14 @@ pub(crate) fn log_place(
     name: &str,
 ) -> Result<EtcdPlace, Error> {
     if !is_log_name(name) {
-        return Err(wrong(alloc, help_texts::log_name_wanted())?);
+        return Err(wrong(alloc, rme_cli_help::log_name_wanted())?);
     }
     let engines = texts_of(alloc, found, "engine")?;
     if engines.is_empty() {
-        return Err(wrong(alloc, help_texts::engine_wanted())?);
+        return Err(wrong(alloc, rme_cli_help::engine_wanted())?);
     }
     if !engines.iter().all(|node| is_node(node.as_str())) {
-        return Err(wrong(alloc, help_texts::node_wanted())?);
+        return Err(wrong(alloc, rme_cli_help::node_wanted())?);
     }
     Ok(EtcdPlace {
         name: name.to_string(alloc)?,
@@ -74,8 +73,8 @@ fn login_of(alloc: Global, found: &ArgMatches<'_>) -> Result<Option<EtcdLogin>, 
             user,
             password_file,
         })),
-        (Some(_), None) => Err(wrong(alloc, help_texts::password_file_wanted())?),
-        (None, Some(_)) => Err(wrong(alloc, help_texts::user_wanted())?),
+        (Some(_), None) => Err(wrong(alloc, rme_cli_help::password_file_wanted())?),
+        (None, Some(_)) => Err(wrong(alloc, rme_cli_help::user_wanted())?),
         (None, None) => Ok(None),
     }
 }
@@ -86,10 +85,10 @@ pub(crate) fn leader_setting(
     found: &ArgMatches<'_>,
 ) -> Result<LeaderSetting, Error> {
     let Some(address) = text_of(alloc, found, "name")? else {
-        return Err(wrong(alloc, help_texts::address_wanted())?);
+        return Err(wrong(alloc, rme_cli_help::address_wanted())?);
     };
     if !is_address(address.as_str()) {
-        return Err(wrong(alloc, help_texts::other_address_wanted())?);
+        return Err(wrong(alloc, rme_cli_help::other_address_wanted())?);
     }
     Ok(LeaderSetting {
         address,
@@ -105,7 +104,7 @@ pub(crate) fn move_task(alloc: Global, found: &ArgMatches<'_>) -> Result<MoveTas
     let (direction, file, name) = match (log_name(from), log_name(to)) {
         (None, Some(name)) => (MoveDirection::FileToLog, from, name),
         (Some(name), None) => (MoveDirection::LogToFile, to, name),
-        _ => return Err(wrong(alloc, help_texts::move_words_wanted())?),
+        _ => return Err(wrong(alloc, rme_cli_help::move_words_wanted())?),
     };
     Ok(MoveTask {
         direction,

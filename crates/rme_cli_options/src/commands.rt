@@ -4,7 +4,7 @@ use crate::arguments::{
     ArgumentKind, ArgumentSpec, ArgumentValue, command_of, option_of, optional, required,
     text_option, why, with_arguments,
 };
-use crate::{ask_arguments, cluster_arguments, help_texts, serve_arguments};
+use crate::{ask_arguments, cluster_arguments, serve_arguments};
 use clap::Command;
 use std::alloc::{AllocError, Global};
 
@@ -52,8 +52,8 @@ fn command_named<'a>(alloc: Global, named: CommandName) -> Result<Command<'a>, A
             command_of(
                 alloc,
                 "check",
-                help_texts::check_about(),
-                help_texts::check_lines(),
+                rme_cli_help::check_about(),
+                rme_cli_help::check_lines(),
                 &[],
             )
         }
@@ -72,11 +72,11 @@ fn program<'a>(alloc: Global) -> Result<Command<'a>, AllocError> {
     let program = asking(command_of(
         alloc,
         "rme",
-        help_texts::about(),
-        help_texts::example(),
+        rme_cli_help::about(),
+        rme_cli_help::example(),
         &[],
     )?);
-    program.version(help_texts::version()).bin_name("rme")
+    program.version(rme_cli_help::version()).bin_name("rme")
 }
 
 /// The program, which requires a command.
@@ -91,8 +91,8 @@ fn run_command<'a>(alloc: Global) -> Result<Command<'a>, AllocError> {
     command_of(
         alloc,
         "run",
-        help_texts::run_about(),
-        help_texts::run_lines(),
+        rme_cli_help::run_about(),
+        rme_cli_help::run_lines(),
         &words,
     )
 }
@@ -104,22 +104,22 @@ fn run_arguments<'a>() -> [ArgumentSpec<'a>; 5] {
             ..optional(
                 "transcript",
                 ArgumentKind::Flag('t'),
-                help_texts::transcript_help(),
+                rme_cli_help::transcript_help(),
             )
         },
         ArgumentSpec {
             needs: &["locks"],
-            ..text_option("image", "FILE", help_texts::image_help())
+            ..text_option("image", "FILE", rme_cli_help::image_help())
         },
         ArgumentSpec {
             needs: &["image"],
             ..optional(
                 "locks",
                 ArgumentKind::List("NAMES"),
-                help_texts::locks_help(),
+                rme_cli_help::locks_help(),
             )
         },
-        text_option("save", "FILE", help_texts::save_help()),
+        text_option("save", "FILE", rme_cli_help::save_help()),
         why(),
     ]
 }
@@ -129,8 +129,8 @@ fn draw_command<'a>(alloc: Global) -> Result<Command<'a>, AllocError> {
     command_of(
         alloc,
         "draw",
-        help_texts::draw_about(),
-        help_texts::draw_lines(),
+        rme_cli_help::draw_about(),
+        rme_cli_help::draw_lines(),
         &words,
     )
 }
@@ -141,18 +141,18 @@ fn draw_arguments<'a>() -> [ArgumentSpec<'a>; 3] {
             ArgumentValue::Line,
             "from",
             "LINE",
-            help_texts::draw_from_help(),
+            rme_cli_help::draw_from_help(),
         ),
         option_of(
             ArgumentValue::Line,
             "to",
             "LINE",
-            help_texts::draw_to_help(),
+            rme_cli_help::draw_to_help(),
         ),
         optional(
             "state",
             ArgumentKind::Flag('s'),
-            help_texts::draw_state_help(),
+            rme_cli_help::draw_state_help(),
         ),
     ]
 }
@@ -166,8 +166,8 @@ fn explain_command<'a>(alloc: Global) -> Result<Command<'a>, AllocError> {
     command_of(
         alloc,
         "explain",
-        help_texts::explain_about(),
-        help_texts::explain_lines(),
+        rme_cli_help::explain_about(),
+        rme_cli_help::explain_lines(),
         &words,
     )
 }
@@ -177,8 +177,8 @@ fn threads_command<'a>(alloc: Global) -> Result<Command<'a>, AllocError> {
     command_of(
         alloc,
         "threads",
-        help_texts::threads_about(),
-        help_texts::threads_lines(),
+        rme_cli_help::threads_about(),
+        rme_cli_help::threads_lines(),
         &words,
     )
 }
@@ -225,8 +225,8 @@ fn serve_command<'a>(alloc: Global) -> Result<Command<'a>, AllocError> {
     let command = command_of(
         alloc,
         "serve",
-        help_texts::serve_about(),
-        help_texts::serve_lines(),
+        rme_cli_help::serve_about(),
+        rme_cli_help::serve_lines(),
         &sizes,
     )?;
     let command = with_arguments(alloc, command, &addresses)?;
@@ -243,8 +243,8 @@ fn look_command<'a>(alloc: Global) -> Result<Command<'a>, AllocError> {
     let command = command_of(
         alloc,
         "look",
-        help_texts::look_about(),
-        help_texts::look_lines(),
+        rme_cli_help::look_about(),
+        rme_cli_help::look_lines(),
         &words,
     )?;
     with_arguments(alloc, command, &cluster_arguments::cluster())
@@ -308,8 +308,8 @@ fn move_command<'a>(alloc: Global) -> Result<Command<'a>, AllocError> {
     let command = command_of(
         alloc,
         "move",
-        help_texts::move_about(),
-        help_texts::move_lines(),
+        rme_cli_help::move_about(),
+        rme_cli_help::move_lines(),
         &words,
     )?;
     with_arguments(alloc, command, &cluster_arguments::cluster())
@@ -323,8 +323,8 @@ fn ask_command<'a>(alloc: Global) -> Result<Command<'a>, AllocError> {
     let command = command_of(
         alloc,
         "ask",
-        help_texts::ask_about(),
-        help_texts::ask_lines(),
+        rme_cli_help::ask_about(),
+        rme_cli_help::ask_lines(),
         &server,
     )?;
     let command = with_arguments(alloc, command, &of_finish)?;

@@ -5,7 +5,6 @@ use crate::cluster_words::{
     has_cluster_option, has_leader_option, leader_setting, log_name, log_place, move_task, wrong,
 };
 use crate::commands::command;
-use crate::help_texts;
 use crate::tasks::{
     CliTask, Diagnostics, DrawTask, DurableServeTask, LineTask, ListenAddresses, LookTask,
     OutputFormat, ReplicatedServeTask, RunImages, ServeTask, ServerLog, SpacesServeTask,
@@ -58,7 +57,7 @@ fn explain_error(alloc: Global, words: &[String], error: Error) -> Result<Error,
     }
     Ok(command(alloc)?.error(
         ErrorKind::MissingRequiredArgument,
-        help_texts::shortest_start(),
+        rme_cli_help::shortest_start(),
     )?)
 }
 
@@ -102,27 +101,27 @@ fn any_serve_task(alloc: Global, found: &ArgMatches<'_>) -> Result<CliTask, Erro
 fn misplaced_option<'a>(found: &ArgMatches<'_>) -> Option<&'a str> {
     let has_spaces = found.contains_id("spaces");
     if found.contains_id("close-after") && !has_spaces {
-        return Some(help_texts::spaces_option_alone());
+        return Some(rme_cli_help::spaces_option_alone());
     }
     if found
         .get_str("spaces")
         .is_some_and(|folder| log_name(folder).is_some())
     {
-        return Some(help_texts::folder_wanted());
+        return Some(rme_cli_help::folder_wanted());
     }
     let is_log = found
         .get_str("state")
         .is_some_and(|state| log_name(state).is_some());
     if is_log && found.contains_id("sync") {
-        return Some(help_texts::sync_with_files());
+        return Some(rme_cli_help::sync_with_files());
     }
     if !is_log && (has_cluster_option(found) || has_leader_option(found)) {
-        return Some(help_texts::leader_options_alone());
+        return Some(rme_cli_help::leader_options_alone());
     }
     let keeps = has_spaces || found.contains_id("state");
     let of_states = ["sync", "waiting", "sections"];
     if !keeps && of_states.iter().any(|option| found.contains_id(option)) {
-        return Some(help_texts::state_options_alone());
+        return Some(rme_cli_help::state_options_alone());
     }
     None
 }
@@ -134,7 +133,7 @@ fn draw_task(alloc: Global, found: &ArgMatches<'_>) -> Result<DrawTask, Error> {
     if from.unwrap_or(1) > to.unwrap_or(u64::MAX) {
         return Err(command(alloc)?.error(
             ErrorKind::ValueValidation,
-            help_texts::draw_lines_in_order(),
+            rme_cli_help::draw_lines_in_order(),
         )?);
     }
     Ok(DrawTask {
@@ -151,7 +150,7 @@ fn look_task(alloc: Global, found: &ArgMatches<'_>) -> Result<LookTask, Error> {
     let log = match log_name(state.as_str()) {
         Some(name) => Some(log_place(alloc, found, name)?),
         None if has_cluster_option(found) => {
-            return Err(wrong(alloc, help_texts::cluster_options_alone())?);
+            return Err(wrong(alloc, rme_cli_help::cluster_options_alone())?);
         }
         None => None,
     };

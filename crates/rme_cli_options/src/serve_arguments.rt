@@ -4,7 +4,6 @@ use crate::arguments::{
     ArgumentKind, ArgumentPresence, ArgumentSpec, ArgumentValue, option_of, optional, text_option,
     why,
 };
-use crate::help_texts;
 
 /// The sizes of a service. An existing state has its own, and so has each space.
 pub(crate) fn sizes<'a>() -> [ArgumentSpec<'a>; 3] {
@@ -143,7 +142,7 @@ pub(crate) fn sessions<'a>() -> [ArgumentSpec<'a>; 4] {
 pub(crate) fn others<'a>() -> [ArgumentSpec<'a>; 3] {
     [
         why(),
-        optional("log", ArgumentKind::Flag('l'), help_texts::log_help()),
+        optional("log", ArgumentKind::Flag('l'), rme_cli_help::log_help()),
         ArgumentSpec {
             presence: ArgumentPresence::RequiredWithout(&["state", "spaces"]),
             ..optional(
