@@ -11,6 +11,7 @@ use crate::apply_error::ApplyError;
 use crate::epoch_base::{Base, epoch_order};
 use crate::immediate::immediate_reply;
 use rme_durable_format::{CommandWriter, append_batch, count_batch, life_of};
+use rme_program::{Ascent, Stage};
 use rme_session_protocol::{
     Attachment, ClientOutcome, ClientReply, ClientToken, Order, Session, SessionReply,
     is_still_waiting,
@@ -18,6 +19,7 @@ use rme_session_protocol::{
 use rme_session_world::{EventBatch, Executor, SessionState};
 use rme_wire::Names;
 use rme_words::Refusal;
+use rme_world::World;
 use std::alloc::Global;
 use std::marker::Model;
 use std::mem::replace;
@@ -29,16 +31,16 @@ const ROOM: usize = 4_096;
 #[derive(Clone, Copy)]
 pub struct ClientAnswer {
     pub reply: ClientReply,
-    /// The lock that the session's job waits for, if it waits.
-    pub waits_for: Option<u32>,
+    /// Where the worker waits for the lock of its job, if it does.
+    pub waits_at: Option<Ascent>,
 }
 
 /// The reply to an order in one epoch.
 #[derive(Clone, Copy)]
 struct EpochAnswer {
     reply: SessionReply,
-    /// The lock that the session's job waits for, if it waits.
-    waits_for: Option<u32>,
+    /// Where the worker waits for the lock of its job, if it does.
+    waits_at: Option<Ascent>,
 }
 
 /// The beginning of an epoch.
@@ -222,7 +224,7 @@ impl EpochExecutor {
         if self.is_overtaken(session, order) {
             return Ok(ClientAnswer {
                 reply: ClientReply::Refused(Refusal::Overtaken),
-                waits_for: None,
+                waits_at: None,
             });
         }
         let answered = self.execute_at_any_life(names, session, &without_after(order))?;
@@ -300,7 +302,7 @@ impl EpochExecutor {
         if let Some(reply) = self.immediate_reply(&view, order)? {
             return Ok(ClientAnswer {
                 reply,
-                waits_for: None,
+                waits_at: None,
             });
         }
         let numbers = self.base.numbers_for(&view, order);
@@ -308,7 +310,7 @@ impl EpochExecutor {
         match self.base.client_reply(numbers, executed.reply) {
             Some(reply) => Ok(ClientAnswer {
                 reply,
-                waits_for: executed.waits_for,
+                waits_at: executed.waits_at,
             }),
             None => Err(self.fail()),
         }
@@ -373,10 +375,10 @@ impl EpochExecutor {
         if log_batch(&mut self.lines, &mut self.writer, names, done.batch).is_err() {
             return Err(self.fail());
         }
-        let waits_for = self.lock_waited_for(session, &done.reply);
+        let waits_at = self.waits_at(session, &done.reply);
         Ok(EpochAnswer {
             reply: done.reply,
-            waits_for,
+            waits_at,
         })
     }
 
@@ -442,17 +444,23 @@ impl EpochExecutor {
         ApplyError::NotLogged
     }
 
-    /// The lock of a session's job, if the reply says that the job waits.
-    fn lock_waited_for(&self, session: &SessionState, reply: &SessionReply) -> Option<u32> {
+    /// Where a session's worker waits for the lock of its job, if the reply says that the job waits.
+    fn waits_at(&self, session: &SessionState, reply: &SessionReply) -> Option<Ascent> {
         if !is_still_waiting(*reply) {
             return None;
         }
-        let worker = session.worker?;
-        let world = self.executor.world();
-        if worker >= world.shape().workers() {
-            return None;
-        }
-        Some(world.pending(worker)?.lock)
+        ascent_of(self.executor.world(), session.worker?)
+    }
+}
+
+/// Where a worker climbs, if it does.
+fn ascent_of(world: &World, worker: u32) -> Option<Ascent> {
+    let Some(private) = world.known(worker) else {
+        return None;
+    };
+    match private.stage {
+        Stage::Climbing(ascent) => Some(ascent),
+        _ => None,
     }
 }
 

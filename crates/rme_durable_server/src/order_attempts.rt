@@ -8,6 +8,7 @@ use crate::durable_server::DurableServer;
 use crate::session::{DurableSession, ServerTag};
 use rme_durable_epochs::{ApplyError, ClientAnswer};
 use rme_durable_log::LogStore;
+use rme_program::Ascent;
 use rme_session_loop::{
     AttemptError, Client, CloseHandle, FirstReply, OrderAttempts, OrderRequest, SessionRegistry,
 };
@@ -52,12 +53,8 @@ impl<L: LogStore, H: CloseHandle, J: ServerTag> OrderAttempts for DurableServer<
         reply.reply == ClientReply::Refused(Refusal::Taken)
     }
 
-    fn lock_waited_for(
-        &self,
-        _session: &DurableSession<L, J>,
-        reply: &ClientAnswer,
-    ) -> Option<u32> {
-        reply.waits_for
+    fn waits_at(&self, _session: &DurableSession<L, J>, reply: &ClientAnswer) -> Option<Ascent> {
+        reply.waits_at
     }
 
     fn begin<R: Wait + Clock, C: Client<Handle = H>>(

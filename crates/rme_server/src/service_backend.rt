@@ -4,6 +4,7 @@ ghost use Rattle.std.specs.Prelude.{◌≡◌, ◌≤◌};
 ghost use Rattle.rme_session_protocol.specs.ClientReplies.{reply_of_client};
 
 use crate::worker_choice::ChosenWorker;
+use rme_program::Ascent;
 use rme_session_loop::{
     AnswerError, AttemptError, Backend, Buffers, Client, CloseHandle, FirstReply, OrderAttempts,
     OrderRequest, OrderRun, ReleaseCause, SessionRegistry, is_take_over,
@@ -154,9 +155,9 @@ impl<K: Tag, H: CloseHandle> OrderAttempts for ServiceBackend<'_, K, H> {
         *reply == SessionReply::Refused(Refusal::Taken)
     }
 
-    fn lock_waited_for(&self, stand: &Stand, _reply: &SessionReply) -> Option<u32> {
+    fn waits_at(&self, stand: &Stand, _reply: &SessionReply) -> Option<Ascent> {
         match &stand.value {
-            Holding::Climb(climb) => Some(climb.lock()),
+            Holding::Climb(climb) => Some(climb.ascent()),
             _ => None,
         }
     }
@@ -290,11 +291,11 @@ fn client_reply(reply: &SessionReply) -> ClientReply
 }
 
 /// The number of tries of a first attempt: one if it is hurried, else at most `QUICK_TRIES`, and at most as many as the
-/// order asks for, but at least one.
+/// order asks for, but at least one. An `enter` makes one: whoever is inside stays there until its client commits.
 fn quick_tries(order: &Order, is_hurried: bool) -> u32
     ensures { 1 ≤ result }
 {
-    if is_hurried {
+    if is_hurried || matches!(order, Order::Enter(_)) {
         return 1;
     }
     match order_patience(order) {

@@ -3,6 +3,7 @@
 use crate::attempt_error::AttemptError;
 use crate::client::{Client, CloseHandle};
 use crate::session_registry::SessionRegistry;
+use rme_program::Ascent;
 use rme_session_protocol::Order;
 use std::sync::Wait;
 use std::time::Clock;
@@ -64,8 +65,8 @@ pub trait OrderAttempts {
     fn is_taken(&self, reply: &Self::Reply) -> bool
         ensures { IsTrue result → says reply.now ≡ Refused Taken };
 
-    /// The lock that the session's job waits for, if it is known.
-    fn lock_waited_for(&self, session: &Self::Session, reply: &Self::Reply) -> Option<u32>;
+    /// The lock that the session's job waits for, and the levels of its tree that its worker holds, if it is known.
+    fn waits_at(&self, session: &Self::Session, reply: &Self::Reply) -> Option<Ascent>;
 
     /// Makes the first attempt at an order: one try if it is hurried, else perhaps several tries without a pause.
     fn begin<R: Wait + Clock, C: Client<Handle = Self::Handle>>(

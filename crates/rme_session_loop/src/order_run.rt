@@ -149,8 +149,8 @@ impl<A: OrderAttempts, C: Client<Handle = A::Handle>> OrderRun<'_, A, C> {
         let mut reply = reply;
         for _ in rt.forever() {
             // The session that was closed may be waiting for a lock.
-            registry.notify_all_locks(rt);
-            returned.wait(rt, Duration::from_micros(LONGEST));
+            registry.wake_all_waiters(rt);
+            returned.wait(rt, 0, Duration::from_micros(LONGEST));
             let (next, retried) = self.backend.retry(rt, session, &self.request, reply);
             session = next;
             reply = match retried {
@@ -185,26 +185,31 @@ impl<A: OrderAttempts, C: Client<Handle = A::Handle>> OrderRun<'_, A, C> {
             (A.says reply))) }
     {
         let FirstReply { reply, tries } = first;
-        let lock = self.backend.lock_waited_for(&session, &reply);
-        let mut pauses = WaitBackoff::new(rt, lock, self.backend.registry());
+        let place = self.backend.waits_at(&session, &reply);
+        let mut pauses = WaitBackoff::new(rt, place, self.backend.registry());
         let mut session = session;
         let mut reply = reply;
         for made in tries..max_tries(&self.request.order) {
-            pauses.pause(rt, &self.request.order);
+            let place = self.backend.waits_at(&session, &reply);
+            pauses.pause(rt, &self.request.order, place);
             let (next, retried) = self.backend.retry(rt, session, &self.request, reply);
             session = next;
             reply = match retried {
                 Ok(reply) => reply,
-                Err(why) => return (session, Err(why)),
+                Err(why) => {
+                    pauses.end(rt);
+                    return (session, Err(why));
+                }
             };
             if !self.backend.is_waiting(&reply) {
                 return (session, Ok(reply));
             }
-            pauses.notify_next();
             if pauses.is_over(rt, &self.request.order) || self.is_client_gone(&pauses) {
+                pauses.end(rt);
                 return (session, Ok(reply));
             }
         }
+        pauses.end(rt);
         (session, Ok(reply))
     }
 

@@ -6,6 +6,7 @@ use crate::client::{Client, CloseHandle};
 use crate::session_event::SessionEvent;
 use crate::wait_queue::{WaitQueue, Waiter};
 use crossbeam_utils::CachePadded;
+use rme_program::Ascent;
 use rme_session_protocol::{ClientOutcome, ClientReply, Order, SessionStance};
 use rme_words::{NoMemory, Refusal, Shape};
 use std::alloc::Global;
@@ -79,7 +80,7 @@ pub struct SessionRegistry<H: CloseHandle> {
     climb_locks: Vec<CachePadded<Mutex<()>>>,
     /// One for each lock, notified when the lock may have been released.
     left: Vec<WaitQueue>,
-    /// Notified when a worker was detached.
+    /// Notified when a worker was detached. Its waiters have no ranks.
     returned: WaitQueue,
 }
 
@@ -108,8 +109,8 @@ impl<H: CloseHandle> SessionRegistry<H> {
         Ok(SessionRegistry {
             claims: new_claims(alloc, shape.workers())?,
             climb_locks: new_climb_locks(alloc, shape.locks())?,
-            left: new_wait_queues(alloc, shape.locks())?,
-            returned: WaitQueue::new(),
+            left: new_wait_queues(alloc, shape)?,
+            returned: WaitQueue::new(alloc, 1)?,
         })
     }
 
@@ -134,16 +135,16 @@ impl<H: CloseHandle> SessionRegistry<H> {
         Some(turn.lock(rt))
     }
 
-    /// Registers a waiter for the release of a lock; `None` if there is no such lock.
-    pub fn wait_at_lock<R: Wait>(&self, rt: &R, lock: u32) -> Option<Waiter<'_>>
-        ensures { IsSome result ↔ (lock < self.now.locks) }
+    /// Registers a waiter for the release of a lock, of a worker that waits here; `None` if there is no such lock.
+    pub fn wait_at_lock<R: Wait>(&self, rt: &R, place: Ascent) -> Option<Waiter<'_>>
+        ensures { IsSome result ↔ (place.lock < self.now.locks) }
     {
-        Some(self.left.get(lock as usize)?.register(rt))
+        Some(self.left.get(place.lock as usize)?.register(rt, place.held))
     }
 
     /// Registers a waiter for the detach of any worker.
     pub fn wait_for_workers<R: Wait>(&self, rt: &R) -> Waiter<'_> {
-        self.returned.register(rt)
+        self.returned.register(rt, 0)
     }
 
     /// Notifies the queues that the order of this reply may concern: it may have released a lock, or detached a worker.
@@ -175,7 +176,7 @@ impl<H: CloseHandle> SessionRegistry<H> {
 
     /// Notifies that a worker was detached. It may have released its lock just before.
     pub fn notify_worker_free<R: Wait>(&self, rt: &R) {
-        self.returned.notify(rt);
+        self.returned.notify_all(rt);
         self.notify_all_locks(rt);
     }
 
@@ -183,6 +184,13 @@ impl<H: CloseHandle> SessionRegistry<H> {
     pub fn notify_all_locks<R: Wait>(&self, rt: &R) {
         for queue in &self.left {
             queue.notify(rt);
+        }
+    }
+
+    /// Wakes all waiters of all locks: the client of one of them may have been closed.
+    pub fn wake_all_waiters<R: Wait>(&self, rt: &R) {
+        for queue in &self.left {
+            queue.notify_all(rt);
         }
     }
 }
@@ -226,14 +234,16 @@ fn new_climb_locks(alloc: Global, count: u32) -> Result<Vec<CachePadded<Mutex<()
     Ok(climb_locks)
 }
 
-fn new_wait_queues(alloc: Global, count: u32) -> Result<Vec<WaitQueue>, NoMemory>
-    ensures { IfOk result (λ queues. length queues.items ≡ count) }
+/// A queue for each lock, with a rank for each number of levels that a waiting worker can hold.
+fn new_wait_queues(alloc: Global, shape: Shape) -> Result<Vec<WaitQueue>, NoMemory>
+    ensures { IfOk result (λ queues. length queues.items ≡ shape.locks) }
 {
-    let Ok(mut queues) = Vec::with_capacity(alloc, count as usize) else {
+    let Ok(mut queues) = Vec::with_capacity(alloc, shape.locks() as usize) else {
         return Err(NoMemory);
     };
-    for _ in 0..count {
-        if queues.push(WaitQueue::new()).is_err() {
+    for _ in 0..shape.locks() {
+        let queue = WaitQueue::new(alloc, shape.height())?;
+        if queues.push(queue).is_err() {
             return Err(NoMemory);
         }
     }

@@ -6,6 +6,7 @@ ghost use Rattle.rme_session_protocol.specs.Attempts as part;
 use crate::client::CloseHandle;
 use crate::session_registry::SessionRegistry;
 use crate::wait_queue::Waiter;
+use rme_program::Ascent;
 use rme_session_protocol::{Order, Patience, order_patience};
 use std::sync::Wait;
 use std::thread;
@@ -18,8 +19,8 @@ const SHORTEST: u64 = 100;
 /// The longest pause, in microseconds.
 pub const LONGEST: u64 = 40_000;
 
-/// The number of tries after a notification whose pauses only yield the processor: by the time that a waiter is awake,
-/// the lock may have been taken and released again.
+/// The number of tries after a notification whose pauses only yield the processor: most sections are over before another
+/// thread would have been woken.
 const EAGER_TRIES: u32 = 8;
 
 /// The pauses of an order. There is none before the first try.
@@ -38,14 +39,14 @@ pub struct WaitBackoff<'a> {
 }
 
 impl<'a> WaitBackoff<'a> {
-    /// The pauses of an order whose job waits for this lock; `None` if the lock is not known.
+    /// The pauses of an order whose job waits here; `None` if that is not known.
     pub fn new<R: Wait + Clock, H: CloseHandle>(
         rt: &R,
-        lock: Option<u32>,
+        place: Option<Ascent>,
         registry: &'a SessionRegistry<H>,
     ) -> WaitBackoff<'a> {
         WaitBackoff {
-            listener: register_waiter(rt, lock, registry),
+            listener: register_waiter(rt, place, registry),
             began: Instant::now(rt).ok(),
             next: 0,
             rung: false,
@@ -53,8 +54,8 @@ impl<'a> WaitBackoff<'a> {
         }
     }
 
-    /// Pauses before a try. The first call returns at once.
-    pub fn pause<R: Wait + Clock>(&mut self, rt: &R, order: &Order) {
+    /// Pauses before a try of an order whose job now waits here. The first call returns at once.
+    pub fn pause<R: Wait + Clock>(&mut self, rt: &R, order: &Order, place: Option<Ascent>) {
         if self.next == 0 {
             self.next = SHORTEST;
             return;
@@ -69,7 +70,7 @@ impl<'a> WaitBackoff<'a> {
             .time_left(rt, order)
             .map_or(most, |left| most.min(left));
         match &mut self.listener {
-            Some(listener) => self.rung = listener.wait(rt, most),
+            Some(listener) => self.rung = listener.wait(rt, rank_of(place), most),
             None => thread::sleep(rt, most),
         }
         if self.rung {
@@ -83,13 +84,10 @@ impl<'a> WaitBackoff<'a> {
         self.eager > 0
     }
 
-    /// Passes the notification that ended the last sleep on to another waiter, once it was of no use in any of the
-    /// tries that followed.
-    pub fn notify_next(&self) {
-        if let Some(listener) = &self.listener {
-            if self.rung && !self.is_spinning() {
-                listener.notify_next();
-            }
+    /// Ends the waiting of an order that did not get its lock: what this waiter heard may be of use to another.
+    pub fn end<R: Wait>(self, rt: &R) {
+        if let Some(listener) = self.listener {
+            listener.end(rt);
         }
     }
 
@@ -114,13 +112,18 @@ impl<'a> WaitBackoff<'a> {
     }
 }
 
+/// The rank at which a waiter sleeps: the number of levels that its worker holds.
+fn rank_of(place: Option<Ascent>) -> u32 {
+    place.map_or(0, |place| place.held)
+}
+
 /// Registers a waiter for a lock, if it is known.
 fn register_waiter<'a, R: Wait, H: CloseHandle>(
     rt: &R,
-    lock: Option<u32>,
+    place: Option<Ascent>,
     registry: &'a SessionRegistry<H>,
 ) -> Option<Waiter<'a>>
-    ensures { IsSome result ↔ IsSomeAnd lock (λ lock. lock < registry.now.locks) }
+    ensures { IsSome result ↔ IsSomeAnd place (λ place. place.lock < registry.now.locks) }
 {
-    registry.wait_at_lock(rt, lock?)
+    registry.wait_at_lock(rt, place?)
 }

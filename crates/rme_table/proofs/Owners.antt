@@ -107,6 +107,11 @@ waits_for seat self b lock held same at =
     let job : Job = record { lock = lock; script = draft_script seat.part.draft } in
     (job, ap (λ (x : SeatView). x.part.draft) (sym same) ∙ draft_is seat.ident.shape seat.part b (Climbing record { lock = lock; held = held }) lock at refl, refl)
 
+-- A Climb is at the place of its stage.
+pub climbs_there : (seat self : SeatView) (b lock held : ℕ) → seat ≡ self → ClimbInvariant seat b lock held → self.part.private.stage ≡ Climbing record { lock = lock; held = held }
+climbs_there seat self b lock held same at =
+    ap (λ (x : SeatView). x.part.private.stage) (sym same) ∙ ap (λ (q : Private). q.stage) at.private
+
 -- The job of a Held whose job is pending.
 pub held_draft : (seat self : SeatView) (b lock : ℕ) (pending : Bool) (job : Job) → seat ≡ self → HeldInvariant seat b lock pending → is_section_over self.part.private.stage ≡ false
     → job ≡ record { lock = lock; script = draft_script seat.part.draft } → self.part.draft ≡ Some job

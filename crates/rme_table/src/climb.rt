@@ -13,6 +13,7 @@ impl Climb {
     ghost use Rattle.std.specs.Prelude.{◌≡◌, ◌≢◌, ◌+◌, ◌*◌, ◌<◌, MatchResult};
     ghost use Rattle.rme_program.specs.declared.kinds.Phase.{Phase};
     ghost use Rattle.rme_program.specs.Phases.{phase_of};
+    ghost use Rattle.rme_program.specs.declared.stage.Stage.TheVariants.{Climbing};
     ghost use Rattle.rme_service_steps.specs.CallSteps.{seat_call, CallFell};
     ghost use Rattle.rme_service_steps.specs.SeatViews.{SeatView};
     ghost use Rattle.rme_script.specs.declared.job.Job.{Job};
@@ -41,6 +42,16 @@ impl Climb {
         ensures { (job : Job) × (self.now.part.draft ≡ Some job) × (job.lock ≡ result) }
     {
         self.lock
+    }
+
+    /// Where it waits: its lock, and the levels of the lock's tree that it holds.
+    pub fn ascent(&self) -> Ascent
+        ensures { self.now.part.private.stage ≡ Climbing result }
+    {
+        Ascent {
+            lock: self.lock,
+            held: self.held,
+        }
     }
 
     /// The job that it waits with, read from its slate.

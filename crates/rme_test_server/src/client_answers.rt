@@ -2,9 +2,9 @@
 
 use crate::client_requests::answer_to;
 use rme_ask_client::{
-    ClientError, ClientRequest, ReportedOutcome, ReportedStance, ServerAnswer, attached_worker,
-    cells_answer, job_outcome, last_receipt, owner_answer, pending_job, server_status, spaces_page,
-    withdrawn_number,
+    ClientError, ClientRequest, ReportedOutcome, ReportedStance, ServerAnswer, ServerStatus,
+    attached_worker, cells_answer, job_outcome, last_receipt, owner_answer, pending_job,
+    server_status, spaces_page, withdrawn_number,
 };
 use std::test::Fail;
 
@@ -96,6 +96,38 @@ fn look_ups_are_read(rt: HostRuntime) -> Result<(), Fail> {
         return Err(Fail::from("cells"));
     };
     assert!(rt; cells_answer(alloc, &value)?.settled);
+    Ok(())
+}
+
+#[test]
+fn a_leader_is_read(rt: HostRuntime) -> Result<(), Fail> {
+    let alloc = rt.alloc();
+    let told =
+        b"{\"epoch\":0,\"leader\":\"host7:1\\u001b\",\"locks\":[],\"ok\":\"status\",\"term\":7,\"workers\":[]}\n";
+    let ServerAnswer::Accepted(value) = answer_to(alloc, ClientRequest::Status, told)? else {
+        return Err(Fail::from("status"));
+    };
+    let ServerStatus { leader, .. } = server_status(alloc, &value)?;
+    let Some(leader) = leader else {
+        return Err(Fail::from("leader"));
+    };
+    assert_eq!(rt; leader.address.as_str(), "host7:1\u{1b}");
+    assert_eq!(rt; leader.term, 7);
+    Ok(())
+}
+
+#[test]
+fn a_leader_without_a_term_is_no_status(rt: HostRuntime) -> Result<(), Fail> {
+    let alloc = rt.alloc();
+    let told =
+        b"{\"epoch\":0,\"leader\":\"host7:1\",\"locks\":[],\"ok\":\"status\",\"workers\":[]}\n";
+    let ServerAnswer::Accepted(value) = answer_to(alloc, ClientRequest::Status, told)? else {
+        return Err(Fail::from("status"));
+    };
+    assert_eq!(rt;
+        server_status(alloc, &value).err(),
+        Some(ClientError::NoMember("term"))
+    );
     Ok(())
 }
 

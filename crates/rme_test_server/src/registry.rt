@@ -1,6 +1,7 @@
 //! The registry has the workers and the locks of its shape, and no others; its claims tell clients of each change, and
 //! close the client of a session once.
 
+use rme_program::Ascent;
 use rme_session_loop::{
     Client, CloseHandle, NoCloseHandle, ReleaseCause, SessionEvent, SessionRegistry, WorkerClaim,
 };
@@ -21,9 +22,14 @@ fn a_registry_has_the_workers_and_locks_of_its_shape(rt: HostRuntime) -> Result<
     assert!(rt; registry.climb_lock(&rt, Some(2)).is_some());
     assert!(rt; registry.climb_lock(&rt, Some(3)).is_none());
     assert!(rt; registry.climb_lock(&rt, None).is_none());
-    assert!(rt; registry.wait_at_lock(&rt, 2).is_some());
-    assert!(rt; registry.wait_at_lock(&rt, 3).is_none());
+    assert!(rt; registry.wait_at_lock(&rt, leaf_of(2)).is_some());
+    assert!(rt; registry.wait_at_lock(&rt, leaf_of(3)).is_none());
     Ok(())
+}
+
+/// Where a worker waits for this lock that holds no level of its tree.
+fn leaf_of(lock: u32) -> Ascent {
+    Ascent { lock, held: 0 }
 }
 
 /// A client that keeps the last event, and how often it was closed.
