@@ -4,7 +4,7 @@ ghost use Rattle.std.specs.Prelude.{◌≡◌, None, true};
 
 use rme_durable_file::{OpenedState, StateFile, SystemFile};
 use rme_durable_log::{LogStore, NotDurable, OpenLog};
-use rme_durable_metrics::MeteredStore;
+use rme_durable_metrics::{MeteredStore, WriteSample};
 use rme_durable_server::StateAndLog;
 use rme_metrics::LogCounters;
 
@@ -62,6 +62,7 @@ pub fn state_and_log<'a>(
             metered: MeteredStore {
                 store: opened.file,
                 counters,
+                sample: WriteSample::new(),
                 clock: rt,
             },
         }),

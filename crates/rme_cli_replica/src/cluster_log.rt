@@ -5,7 +5,7 @@ ghost use Rattle.std.specs.Prelude.{◌≡◌, Some, true};
 use crate::noted_engine::NotedEngine;
 use rme_durable_file::{OpenedState, StateFile};
 use rme_durable_log::{LogStore, NotDurable, OpenLog};
-use rme_durable_metrics::MeteredStore;
+use rme_durable_metrics::{MeteredStore, WriteSample};
 use rme_durable_server::{LeaderNote, StateAndLog};
 use rme_metrics::LogCounters;
 use rme_replica_state::ReplicaState;
@@ -68,6 +68,7 @@ pub(crate) fn state_and_cluster_log<'a>(
             metered: MeteredStore {
                 store: opened.file,
                 counters,
+                sample: WriteSample::new(),
                 clock: rt,
             },
         }),

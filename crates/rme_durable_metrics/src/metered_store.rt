@@ -7,12 +7,42 @@ use std::time::{Clock, Instant};
 /// The microseconds of a second.
 const SECOND: u64 = 1_000_000;
 
+/// Of this number of writes to a quick store one is timed: others wait for such a write, and each look at a clock takes a
+/// hundredth of it.
+const WRITES_A_TIME: u32 = 16;
+
+/// The last time of a write that was taken, which stands for the writes after it that are not timed.
+#[derive(Drop)]
+pub struct WriteSample {
+    micros: u64,
+    /// The number of writes that follow before one is timed.
+    left: u32,
+}
+
+impl WriteSample {
+    /// No time: the next write is timed.
+    pub fn new() -> WriteSample {
+        WriteSample { micros: 0, left: 0 }
+    }
+
+    /// Whether the next write is timed.
+    fn is_due(&mut self, is_quick: bool) -> bool {
+        if is_quick && self.left > 0 {
+            self.left -= 1;
+            return false;
+        }
+        self.left = WRITES_A_TIME - 1;
+        true
+    }
+}
+
 /// A store that stores as another one, and counts the times of its writes and of its checkpoints; without counters it
 /// only stores.
 #[derive(Drop)]
 pub struct MeteredStore<'a, L, R> {
     pub store: L,
     pub counters: Option<&'a LogCounters>,
+    pub sample: WriteSample,
     /// The clock that the times are read off.
     pub clock: &'a R,
 }
@@ -37,10 +67,10 @@ impl<L, R: Clock> MeteredStore<'_, L, R> {
         }
     }
 
-    /// Counts a write that began at this moment.
-    fn count_write(&self, began: Option<Instant>) {
-        if let (Some(counters), Some(began)) = (self.counters, began) {
-            counters.written(self.micros_since(began));
+    /// Counts a write, which took about this number of microseconds.
+    fn count_write(&self, micros: u64) {
+        if let Some(counters) = self.counters {
+            counters.written(micros);
         }
     }
 
@@ -59,10 +89,14 @@ impl<L: LogStore, R: Clock> LogStore for MeteredStore<'_, L, R> {
     ghost shared = { L.shared };
 
     fn append(&mut self, lines: &[u8]) -> Result<(), NotDurable> {
-        let began = self.moment();
+        let is_timed = self.sample.is_due(self.store.is_quick());
+        let began = if is_timed { self.moment() } else { None };
         let answered = self.store.append(lines);
         if answered.is_ok() {
-            self.count_write(began);
+            if let Some(began) = began {
+                self.sample.micros = self.micros_since(began);
+            }
+            self.count_write(self.sample.micros);
         }
         answered
     }
