@@ -1,9 +1,11 @@
-/* cluster lock|append PORT CONNECTIONS LOCKS MILLISECONDS BYTES NAME: clients of a node of etcd, by its JSON gateway; a thread a
+/* cluster lock|append|fenced PORT CONNECTIONS LOCKS MILLISECONDS BYTES NAME: clients of a node of etcd, by its JSON gateway; a thread a
    connection, each with one job at a time.
 
    - lock: a job waits for the lock w modulo LOCKS of etcd's own lock service, with a lease that client w has from the beginning;
      reads the lock's number; puts one more, on the condition that the lock is still its own; and gives the lock back.
    - append: a job puts a value of this number of bytes at a key of its own.
+   - fenced: the same, and a head that names it, in a transaction on the condition that the head is still that of client w: what
+     a log with one writer asks of the cluster.
 
    The keys begin with NAME. It prints how many jobs were done, the nanoseconds that took, the sum of the numbers at the end, and
    the microseconds within which half of the jobs were done, and 99 of 100.
@@ -13,7 +15,7 @@
 enum { SLOWEST = 10000000, LARGE = 65536, SHORT = 256 };
 
 static unsigned port, locks, milliseconds, bytes;
-static bool has_locks;
+static enum { LOCK, APPEND, FENCED } kind;
 static const char *name;
 static atomic_bool is_over;
 static pthread_barrier_t begin;
@@ -162,23 +164,65 @@ static void in_lock(struct client *client) {
     ask(client, "/v3/lock/unlock", body, "\"header\"");
 }
 
-static void append(struct client *client) {
-    char text[SHORT], key[SHORT], body[LARGE];
+/* The key of the client's next record. */
+static void record_key(char *out, const struct client *client) {
+    char text[SHORT];
     int size = snprintf(text, sizeof text, "%s/%u/%016llu", name, client->number, (unsigned long long)client->done);
-    encode(key, text, (size_t)size);
+    encode(out, text, (size_t)size);
+}
+
+static void append(struct client *client) {
+    char key[SHORT], body[LARGE];
+    record_key(key, client);
     snprintf(body, sizeof body, "{\"key\":\"%s\",\"value\":\"%s\"}", key, client->value);
     ask(client, "/v3/kv/put", body, "\"header\"");
 }
 
+/* The head of the client's log when it has this number of records. */
+static void head_of(char *out, uint64_t records) {
+    char text[SHORT];
+    int size = snprintf(text, sizeof text,
+        "{\"addr\":\"127.0.0.1\",\"epoch\":0,\"rme\":\"kept\",\"seq\":%llu,\"term\":1,\"version\":1,\"writer\":\"%024u\"}",
+        (unsigned long long)records, 0);
+    encode(out, text, (size_t)size);
+}
+
+static void begin_log(struct client *client) {
+    char key[SHORT], head[2 * SHORT], body[4 * SHORT];
+    key_of(key, "head", client->number);
+    head_of(head, 0);
+    snprintf(body, sizeof body, "{\"key\":\"%s\",\"value\":\"%s\"}", key, head);
+    ask(client, "/v3/kv/put", body, "\"header\"");
+}
+
+static void fenced(struct client *client) {
+    char key[SHORT], record[SHORT], seen[2 * SHORT], next[2 * SHORT], body[LARGE];
+    key_of(key, "head", client->number);
+    record_key(record, client);
+    head_of(seen, client->done);
+    head_of(next, client->done + 1);
+    snprintf(body, sizeof body,
+        "{\"compare\":[{\"target\":\"VALUE\",\"result\":\"EQUAL\",\"key\":\"%s\",\"value\":\"%s\"}],"
+        "\"success\":[{\"request_put\":{\"key\":\"%s\",\"value\":\"%s\"}},{\"request_put\":{\"key\":\"%s\",\"value\":\"%s\"}}],"
+        "\"failure\":[{\"request_range\":{\"key\":\"%s\"}}]}",
+        key, seen, key, next, record, client->value, key);
+    ask(client, "/v3/kv/txn", body, "\"succeeded\":true");
+}
+
+static void (*const job_of[])(struct client *) = {in_lock, append, fenced};
+
 static void *work(void *given) {
     struct client *client = given;
-    if (has_locks) {
+    if (kind == FENCED) {
+        begin_log(client);
+    }
+    if (kind == LOCK) {
         member(client->lease, ask(client, "/v3/lease/grant", "{\"TTL\":\"600\"}", "\"ID\""), "\"ID\":\"");
     }
     pthread_barrier_wait(&begin);
     while (!atomic_load_explicit(&is_over, memory_order_relaxed)) {
         uint64_t began = now();
-        (has_locks ? in_lock : append)(client);
+        job_of[kind](client);
         uint64_t took = (now() - began) / 1000;
         client->took[took < SLOWEST ? took : SLOWEST]++;
         client->done++;
@@ -221,9 +265,9 @@ static unsigned within(const struct client *clients, unsigned connections, uint6
 
 int main(int count, char **words) {
     if (count != 8) {
-        fail("usage: %s lock|append PORT CONNECTIONS LOCKS MILLISECONDS BYTES NAME", words[0]);
+        fail("usage: %s lock|append|fenced PORT CONNECTIONS LOCKS MILLISECONDS BYTES NAME", words[0]);
     }
-    has_locks = strcmp(words[1], "lock") == 0;
+    kind = strcmp(words[1], "lock") == 0 ? LOCK : strcmp(words[1], "append") == 0 ? APPEND : FENCED;
     port = number_of(words[2], 65535);
     unsigned connections = number_of(words[3], 256);
     locks = number_of(words[4], 256);
@@ -252,7 +296,7 @@ int main(int count, char **words) {
         done += clients[i].done;
     }
     uint64_t took = now() - began;
-    for (unsigned lock = 0; has_locks && lock < locks; lock++) {
+    for (unsigned lock = 0; kind == LOCK && lock < locks; lock++) {
         sum += counted(&clients[0], lock);
     }
     printf("%llu %llu %llu %u %u\n", (unsigned long long)done, (unsigned long long)took, (unsigned long long)sum,
