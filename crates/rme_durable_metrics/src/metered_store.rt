@@ -2,37 +2,44 @@
 
 use rme_durable_log::{LogStore, NotDurable};
 use rme_metrics::LogCounters;
+use std::mem::replace;
 use std::time::{Clock, Instant};
 
 /// The microseconds of a second.
 const SECOND: u64 = 1_000_000;
 
-/// Of this number of writes to a quick store one is timed: others wait for such a write, and each look at a clock takes a
-/// hundredth of it.
-const WRITES_A_TIME: u32 = 16;
+/// Of this number of writes to a quick store one is timed and counted, for all of them. Orders wait for such a write, and
+/// looks at a clock, and counters that other processors read, would take a twentieth of it.
+const WRITES_A_TIME: u64 = 16;
 
-/// The last time of a write that was taken, which stands for the writes after it that are not timed.
+/// Which writes are timed, and the writes since the last one that was.
 #[derive(Drop)]
 pub struct WriteSample {
-    micros: u64,
+    writes: u64,
     /// The number of writes that follow before one is timed.
-    left: u32,
+    left: u64,
 }
 
 impl WriteSample {
-    /// No time: the next write is timed.
+    /// No writes: the first one is timed.
     pub fn new() -> WriteSample {
-        WriteSample { micros: 0, left: 0 }
+        WriteSample { writes: 0, left: 0 }
     }
 
-    /// Whether the next write is timed.
-    fn is_due(&mut self, is_quick: bool) -> bool {
+    /// Counts one more write. Answers whether it is timed.
+    fn count(&mut self, is_quick: bool) -> bool {
+        self.writes = self.writes.saturating_add(1);
         if is_quick && self.left > 0 {
             self.left -= 1;
             return false;
         }
         self.left = WRITES_A_TIME - 1;
         true
+    }
+
+    /// The writes that the timed one stands for, itself among them.
+    fn take(&mut self) -> u64 {
+        replace(&mut self.writes, 0)
     }
 }
 
@@ -67,13 +74,6 @@ impl<L, R: Clock> MeteredStore<'_, L, R> {
         }
     }
 
-    /// Counts a write, which took about this number of microseconds.
-    fn count_write(&self, micros: u64) {
-        if let Some(counters) = self.counters {
-            counters.written(micros);
-        }
-    }
-
     /// Counts a checkpoint that began at this moment.
     fn count_checkpoint(&self, began: Option<Instant>) {
         if let (Some(counters), Some(began)) = (self.counters, began) {
@@ -89,14 +89,11 @@ impl<L: LogStore, R: Clock> LogStore for MeteredStore<'_, L, R> {
     ghost shared = { L.shared };
 
     fn append(&mut self, lines: &[u8]) -> Result<(), NotDurable> {
-        let is_timed = self.sample.is_due(self.store.is_quick());
+        let is_timed = self.sample.count(self.store.is_quick());
         let began = if is_timed { self.moment() } else { None };
         let answered = self.store.append(lines);
-        if answered.is_ok() {
-            if let Some(began) = began {
-                self.sample.micros = self.micros_since(began);
-            }
-            self.count_write(self.sample.micros);
+        if let (Ok(()), Some(counters), Some(began)) = (&answered, self.counters, began) {
+            counters.written(self.micros_since(began), self.sample.take());
         }
         answered
     }

@@ -84,7 +84,7 @@ impl CounterLane {
 
     /// Counts a line that has its answer, or will have none, after this number of microseconds.
     pub fn line_done(&self, micros: u64) {
-        self.times.add(micros);
+        self.times.add(micros, 1);
     }
 
     /// Counts an order that was not refused.

@@ -23,9 +23,9 @@ impl LogCounters {
         }
     }
 
-    /// Counts a write to a log that took this number of microseconds.
-    pub fn written(&self, micros: u64) {
-        self.writes.add(micros);
+    /// Counts this number of writes to a log, each of which took about this number of microseconds.
+    pub fn written(&self, micros: u64, writes: u64) {
+        self.writes.add(micros, writes);
     }
 
     /// Counts a checkpoint that took this number of microseconds.

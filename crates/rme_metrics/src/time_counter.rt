@@ -52,10 +52,11 @@ impl TimeCounter {
         }
     }
 
-    /// Adds a time.
-    pub fn add(&self, micros: u64) {
-        self.counts[bucket_of(BOUNDS.as_slice(), micros)].fetch_add(1, Ordering::SeqCst);
-        self.micros.fetch_add(micros, Ordering::SeqCst);
+    /// Adds a time this number of times.
+    pub fn add(&self, micros: u64, times: u64) {
+        self.counts[bucket_of(BOUNDS.as_slice(), micros)].fetch_add(times, Ordering::SeqCst);
+        self.micros
+            .fetch_add(micros.saturating_mul(times), Ordering::SeqCst);
     }
 
     /// The times up to now.

@@ -171,12 +171,12 @@ fn counters_tell_what_was_added(rt: HostRuntime) -> Result<(), Fail> {
 #[test]
 fn log_counters_tell_what_was_added(rt: HostRuntime) -> Result<(), Fail> {
     let counters = LogCounters::new();
-    counters.written(40);
-    counters.written(2);
+    counters.written(40, 1);
+    counters.written(2, 16);
     counters.replaced(9);
     let told = counters.told(rt.alloc())?;
-    assert_eq!(rt; told.write_times.count, 2);
-    assert_eq!(rt; told.write_times.micros, 42);
+    assert_eq!(rt; told.write_times.count, 17);
+    assert_eq!(rt; told.write_times.micros, 72);
     assert_eq!(rt; told.checkpoints, 1);
     assert_eq!(rt; told.checkpoint_micros, 9);
     Ok(())
