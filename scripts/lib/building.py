@@ -28,18 +28,21 @@ LEAST_NICE, MOST_NICE, SECONDS_A_NICE = 5, 19, 15
 # The processor seconds that crates take with one job, some measured and some estimated. They say which chain of crates
 # is the longest, and about how long a build takes.
 SECONDS = {
-    "rme_words": 38, "rme_tree": 16, "rme_script": 38, "rme_line_io": 75, "rme_cli_options": 90, "rme_program": 85,
+    "rme_words": 38, "rme_tree": 16, "rme_script": 38, "rme_line_io": 75, "rme_cli_options": 200, "rme_program": 85,
     "rme_machine": 18, "rme_history": 45, "rme_core_image": 65, "rme_core_image_check": 40, "rme_core_checker": 60,
     "rme_world": 95, "rme_waiting": 30, "rme_line_json": 35, "rme_line_text": 100, "rme_wire": 100, "rme_session_protocol": 130,
     "rme_line_diagnose": 60, "rme_line_check": 110, "rme_cli_messages": 120, "rme_draw_picture": 145,
-    "rme_ask_client": 110, "rme_cli_ask": 150,
+    "rme_ask_client": 110, "rme_cli_ask": 260,
     "rme_service_steps": 60, "rme_service_phases": 100, "rme_table": 135, "rme_supervisor": 140,
     "rme_session_threads": 140, "rme_session_loop": 110, "rme_session_server": 80, "rme_server": 65, "rme_line_engine": 88,
     "rme_draw_history": 70, "rme_cli_lines": 80, "rme_cli_run": 49, "rme_session_world": 95, "rme_durable_log": 65,
     "rme_durable_format": 160, "rme_durable_epochs": 120, "rme_durable_checkpoint": 110, "rme_durable_recovery": 60, "rme_durable_lookups": 90,
-    "rme_durable_server": 150,
-    "rme_process_file": 90, "rme_durable_file": 120, "rme_cli_listen": 70, "rme_cli_look": 150, "rme_cli_durable": 150, "rme_cli_state": 200,
-    "rme_cli_commands": 250, "rme_cli": 300,
+    "rme_durable_server": 215,
+    "rme_process_file": 90, "rme_durable_file": 240, "rme_cli_listen": 70, "rme_cli_look": 260, "rme_cli_durable": 280, "rme_cli_state": 200,
+    "rme_cli_commands": 180, "rme_cli": 300,
+    "rme_cli_help": 15, "rme_metrics": 55, "rme_session_metrics": 38, "rme_session_keys": 70, "rme_session_spaces": 60,
+    "rme_durable_metrics": 15, "rme_replica_state": 35, "rme_cli_http": 65, "rme_cli_keys": 42, "rme_cli_cluster": 45,
+    "rme_cli_cluster_look": 45, "rme_cli_move": 195, "rme_cli_spaces": 350, "rme_cli_replica": 310,
 }  # fmt: skip
 # Side by side crates keep some 2.7 processors busy, if there are four. The longest chain takes about four fifths of
 # its seconds (an estimate).
@@ -161,8 +164,7 @@ def expected(weight, chain, places):
 
 
 def minutes_for(crates, names):
-    """About how many minutes it takes to build these crates, and how fast they were built on the machine of the
-    estimates."""
+    """About how many minutes it takes to build these crates on the machine of the estimates."""
     weights = {name: weight(name) for name in crates if name in names}
     chain = max(chains(crates, weights).values(), default=0)
     return round(expected(sum(weights.values()), chain, lanes()) / 60)
