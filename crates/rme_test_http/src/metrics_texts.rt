@@ -125,7 +125,7 @@ fn a_snapshot_has_this_text(rt: HostRuntime) -> Result<(), Fail> {
 fn times_are_counted_by_their_bounds(rt: HostRuntime) -> Result<(), Fail> {
     let counter = TimeCounter::new();
     for micros in [100, 101, 30_000_001] {
-        counter.add(micros);
+        counter.add(micros, 1);
     }
     let told = counter.histogram(rt.alloc())?;
     let first: Vec<u64> = told
