@@ -22,7 +22,7 @@ pub(crate) enum LeadOutcome {
 pub(crate) struct LeadNote {
     /// It is locked for no longer than a copy takes.
     last: Mutex<LeadOutcome>,
-    /// The term of the last add that was made; 0 before the first.
+    /// The term of the head that was read or put last; 0 before the first.
     term: AtomicU64,
     /// The bytes of the records that the head names.
     bytes: AtomicU64,
@@ -59,11 +59,16 @@ impl LeadNote {
     pub(crate) fn leader(&self, address: String) -> LeaderNote {
         LeaderNote {
             address,
-            term: self.term.load(Ordering::SeqCst),
+            term: self.term(),
         }
     }
 
-    /// An add has put a head of this term.
+    /// The term of the head that was read or put last.
+    pub(crate) fn term(&self) -> u64 {
+        self.term.load(Ordering::SeqCst)
+    }
+
+    /// A head of this term was read or put.
     pub(crate) fn set_term(&self, term: u64) {
         self.term.store(term, Ordering::SeqCst);
     }

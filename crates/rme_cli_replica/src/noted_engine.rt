@@ -5,8 +5,8 @@ use rme_etcd::{EtcdEngine, EtcdFault};
 use rme_replica::{Added, Head, LogEngine, Lost};
 use std::alloc::Global;
 
-/// The engine of a log in a cluster. It notes the outcome of its last call, and the term of its last add. After each claim
-/// and each checkpoint it deletes the records of other epochs.
+/// The engine of a log in a cluster. It notes the outcome of its last call, and the term of the head that it read or put
+/// last. After each claim and each checkpoint it deletes the records of other epochs.
 #[derive(Drop)]
 pub(crate) struct NotedEngine<'a> {
     pub(crate) engine: EtcdEngine,
@@ -79,6 +79,7 @@ impl LogEngine for NotedEngine<'_> {
             return Err(self.lost());
         };
         self.note.set(LeadOutcome::Own);
+        self.note.set_term(head.term());
         self.note.set_bytes(bytes.len());
         Ok((head, bytes))
     }

@@ -101,8 +101,8 @@ impl LeadRequest<'_> {
         standby.ensure_log()?;
         self.check()?;
         for _ in 0..u64::MAX {
-            standby.wait()?;
-            if let Some(status) = self.try_lead(threads)? {
+            let term = standby.wait()?;
+            if let Some(status) = self.try_lead(threads, term)? {
                 return Ok(status);
             }
         }
@@ -117,10 +117,11 @@ impl LeadRequest<'_> {
         Ok(())
     }
 
-    /// Claims the log, and serves until an event cannot be logged; `None` if another server was faster.
+    /// Claims the log in this term, and serves until an event cannot be logged; `None` if another server was faster.
     fn try_lead<R: Threads + Wait + Clock + Sync>(
         &self,
         threads: &R,
+        term: Option<u64>,
     ) -> Result<Option<u8>, ClusterFault> {
         let note = LeadNote::new();
         let name = self.state_name()?;
@@ -130,7 +131,7 @@ impl LeadRequest<'_> {
             note: &note,
             writes: &writes,
         };
-        self.lead(threads, notes)
+        self.lead(threads, notes, term)
     }
 
     /// The same, with the notes, which outlive the state.
@@ -138,6 +139,7 @@ impl LeadRequest<'_> {
         &'f self,
         threads: &R,
         notes: LeadNotes<'f>,
+        term: Option<u64>,
     ) -> Result<Option<u8>, ClusterFault> {
         let alloc = self.rt.alloc();
         let keys = match open_keys(self.rt, copy_of(alloc, self.keys)?) {
@@ -146,6 +148,9 @@ impl LeadRequest<'_> {
         };
         let address = String::from_str(alloc, self.leader.address.as_str())?;
         let (found, growth) = self.find_state(notes.name, notes.note)?;
+        if term.is_some_and(|term| term != notes.note.term()) {
+            return Ok(None);
+        }
         let http = HttpPort::listen(self.rt, self.http)?;
         let places = copy_of_places(alloc, self.places)?;
         let (listeners, bound) = listen(self.rt, places, self.limits)?;

@@ -50,33 +50,37 @@ impl Standby<'_> {
     /// Waits until the log may be claimed: no server has led it yet, its leader was quiet for long enough, or this
     /// server takes over at once. Then it has fenced the leader, which it does only once. If it has to wait, it first
     /// prints the address of the leader.
-    pub(crate) fn wait(&mut self) -> Result<(), ClusterFault> {
+    ///
+    /// Answers the term in which the log may be claimed: in another one another server was faster. `None` if that makes no
+    /// difference.
+    pub(crate) fn wait(&mut self) -> Result<Option<u64>, ClusterFault> {
         let Some(first) = self.look()? else {
-            return self.create();
+            return self.create_unled();
         };
         if first.head.term() == 0 {
-            return Ok(());
+            return Ok(Some(0));
         }
         if self.takes {
             self.takes = false;
-            return fence_leader(self.rt, self.place, self.leader);
+            fence_leader(self.rt, self.place, self.leader)?;
+            return Ok(None);
         }
         self.print(&first.head)?;
         self.wait_for_quiet(first)
     }
 
-    /// Waits until the log has not changed for long enough.
-    fn wait_for_quiet(&mut self, first: LogView) -> Result<(), ClusterFault> {
+    /// Waits until the log has not changed for long enough, and answers its term.
+    fn wait_for_quiet(&mut self, first: LogView) -> Result<Option<u64>, ClusterFault> {
         let mut before = first;
         let wanted = self.quiet_looks();
         let mut quiet = 0u64;
         for _ in 0..u64::MAX {
             if quiet >= wanted {
-                return Ok(());
+                break;
             }
             thread::sleep(self.rt, Duration::from_millis(PAUSE));
             let Some(now) = self.look()? else {
-                return self.create();
+                return self.create_unled();
             };
             quiet = match now.is_same(&before) {
                 true => quiet.saturating_add(1),
@@ -84,7 +88,7 @@ impl Standby<'_> {
             };
             before = now;
         }
-        Ok(())
+        Ok(Some(before.head.term()))
     }
 
     /// The number of looks, each after a pause, that must find no change. Looks are counted, not time: a process that
@@ -115,6 +119,12 @@ impl Standby<'_> {
             return Err(self.fault());
         };
         Ok(Some(LogView { head, beat }))
+    }
+
+    /// Creates the log, and answers its term: that of a log which no server has led.
+    fn create_unled(&mut self) -> Result<Option<u64>, ClusterFault> {
+        self.create()?;
+        Ok(Some(0))
     }
 
     fn create(&mut self) -> Result<(), ClusterFault> {
