@@ -90,7 +90,7 @@ impl MetricFamily {
             MetricFamily::Orders => "Orders that were answered, and not refused, by their kind.",
             MetricFamily::Refusals => "Lines that were refused, by the name of the refusal.",
             MetricFamily::OrderSeconds => "Seconds from a line of a session to its answer.",
-            MetricFamily::WriteSeconds => "Seconds of each write to a log, with its sync.",
+            MetricFamily::WriteSeconds => "Seconds of a write to a log, with its sync.",
             MetricFamily::Checkpoints => "Checkpoints that this server made.",
             MetricFamily::CheckpointSeconds => "Seconds that the checkpoints took.",
             MetricFamily::JobsFinished => "Jobs that were finished, by their lock.",
