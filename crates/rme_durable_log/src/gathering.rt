@@ -6,14 +6,14 @@
 //! part of one, until as many threads ask for it as the last write answered and found waiting. This is the delay of group
 //! commit (DeWitt and others 1984).
 
-use std::sync::atomic::{AtomicU32, Ordering};
-use std::thread;
-use std::time::{Clock, Duration};
+use std::sync::Wait;
+use std::sync::atomic::{AtomicU64, Ordering};
+use std::time::Duration;
 
-/// The number of times that a write looks whether the expected threads have asked.
+/// The most times that a write looks whether the expected threads have asked.
 const LOOKS: u32 = 4;
 
-/// The time from look to look, in microseconds.
+/// The most time from look to look, in microseconds.
 const PAUSE: u64 = 100;
 
 /// How many threads ask for a write, and how many are expected to.
@@ -21,12 +21,12 @@ const PAUSE: u64 = 100;
 pub(crate) struct Gathering {
     /// Whether writes wait.
     is_on: bool,
-    /// The number of threads that asked since the last write took its lines.
-    asking: AtomicU32,
+    /// The number of threads that asked since the last write took its lines. The write that waits sleeps on it.
+    asking: AtomicU64,
     /// The number of threads that the last write had lines of.
-    answered: AtomicU32,
+    answered: AtomicU64,
     /// The number of threads that are expected to ask before the next write.
-    expected: AtomicU32,
+    expected: AtomicU64,
 }
 
 impl Gathering {
@@ -34,28 +34,35 @@ impl Gathering {
     pub(crate) fn new(is_on: bool) -> Gathering {
         Gathering {
             is_on,
-            asking: AtomicU32::new(0),
-            answered: AtomicU32::new(0),
-            expected: AtomicU32::new(0),
+            asking: AtomicU64::new(0),
+            answered: AtomicU64::new(0),
+            expected: AtomicU64::new(0),
         }
     }
 
-    /// A thread asks for a write.
+    /// A thread asks for a write. The last of the expected threads wakes the write that waits.
     pub(crate) fn asked(&self) {
         if self.is_on {
-            self.asking.fetch_add(1, Ordering::SeqCst);
+            let others = self.asking.fetch_add(1, Ordering::SeqCst);
+            if others.saturating_add(1) == self.expected.load(Ordering::SeqCst) {
+                self.asking.wake_one();
+            }
         }
     }
 
     /// Waits until the expected threads have asked, for less than a millisecond.
-    pub(crate) fn wait<R: Clock>(&self, rt: &R) {
+    pub(crate) fn wait<R: Wait>(&self, rt: &R) {
         let looks = if self.is_on { LOOKS } else { 0 };
         let expected = self.expected.load(Ordering::SeqCst);
         for _ in 0..looks {
-            if self.asking.load(Ordering::SeqCst) >= expected {
+            let asking = self.asking.load(Ordering::SeqCst);
+            if asking >= expected {
                 return;
             }
-            thread::sleep(rt, Duration::from_micros(PAUSE));
+            // It does not sleep if more have asked since; the low 32 bits tell.
+            let seen = (asking & u64::from(u32::MAX)) as u32;
+            self.asking
+                .park_timeout(rt, seen, Duration::from_micros(PAUSE));
         }
     }
 

@@ -12,7 +12,6 @@ use std::alloc::Global;
 use std::mem::replace;
 use std::sync::atomic::{AtomicBool, Ordering};
 use std::sync::{Condvar, Mutex, Wait};
-use std::time::Clock;
 
 /// The value under the executor's lock that has the pending lines.
 pub trait PendingLines<L: LogStore, J: LogTag> {
@@ -45,6 +44,14 @@ struct CommitState<L: LogStore, J: LogTag> {
     spare: String,
 }
 
+/// A write that was begun: the writer, which no other thread has meanwhile, and the lines. `end_quick_write` ends it.
+#[derive(Drop)]
+pub struct QuickWrite<L: LogStore, J: LogTag> {
+    held: LogWriter<L, J>,
+    /// `None` if an event could not be written as a line.
+    taken: Option<PendingBatch<L, J>>,
+}
+
 impl<L: LogStore, J: LogTag> GroupCommit<L, J> {
     ghost use Rattle.std.specs.Prelude.{◌≡◌, IfErr, OnOk, false};
     ghost use Rattle.rme_durable_log.specs.Logs.{IsCommitted};
@@ -71,7 +78,7 @@ impl<L: LogStore, J: LogTag> GroupCommit<L, J> {
 
     /// Waits until everything before this position was in the store; writes it if no other thread does. If the store is
     /// shared, it waits until the store was asked, after that, whether its bytes are still those of this log.
-    pub fn commit<R: Wait + Clock, F: PendingLines<L, J>>(
+    pub fn commit<R: Wait, F: PendingLines<L, J>>(
         &self,
         rt: &R,
         front: &Mutex<F>,
@@ -113,26 +120,31 @@ impl<L: LogStore, J: LogTag> GroupCommit<L, J> {
         unreachable!()
     }
 
-    /// Stores all lines up to this position, if that takes no longer than waking another thread and no other thread is
-    /// writing. Call this while holding the executor's lock: a thread that waits for the lock meanwhile waits less than
-    /// for another thread's write. A later `commit` of the position finds that it is committed, or why it is not.
-    pub fn commit_inline<R: Wait, F: PendingLines<L, J>>(
+    /// Begins a write of all pending lines, if a write takes no longer than waking another thread, no other thread is
+    /// writing, and this position is not yet committed. Call this while holding the executor's lock, drop that lock, and
+    /// then call `end_quick_write`: so the next order is executed while the lines of this one are written. A later
+    /// `commit` of the position finds that it is committed, or why it is not.
+    pub fn begin_quick_write<R: Wait, F: PendingLines<L, J>>(
         &self,
         rt: &R,
         front: &mut F,
         end: &LogPosition<L, J>,
-    ) {
+    ) -> Option<QuickWrite<L, J>> {
         if !self.is_quick || self.marks.is_committed(end) || self.is_failed() {
-            return;
+            return None;
         }
         let mut back = lock_with_spin(rt, &self.back);
-        let Some(held) = back.held.take() else {
-            return;
-        };
+        let held = back.held.take()?;
         self.marks.begin_write();
         let spare = replace(&mut back.spare, String::new(self.alloc));
         drop(back);
         let taken = front.take_lines(spare);
+        Some(QuickWrite { held, taken })
+    }
+
+    /// Writes the lines of a write that was begun, and lets other threads write again.
+    pub fn end_quick_write<R: Wait>(&self, rt: &R, write: QuickWrite<L, J>) {
+        let QuickWrite { held, taken } = write;
         self.write_batch(rt, held, taken);
     }
 

@@ -24,7 +24,7 @@ mod log_writer;
 mod open_log;
 mod spinning;
 
-pub use group_commit::{GroupCommit, PendingLines};
+pub use group_commit::{GroupCommit, PendingLines, QuickWrite};
 pub use log_appender::{LogAppender, PendingBatch};
 pub use log_author::LogAuthor;
 pub use log_entry::LogEntry;

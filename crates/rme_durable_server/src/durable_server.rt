@@ -8,7 +8,7 @@ use crate::session::{DurableSession, ServerTag};
 use crate::waiting_jobs::{WaitingJobs, Withdrawal};
 use rme_durable_epochs::{ApplyError, ClientAnswer, EpochExecutor};
 use rme_durable_log::{
-    GroupCommit, LogPosition, LogStore, LogTag, NotDurable, OpenLog, lock_with_spin,
+    GroupCommit, LogPosition, LogStore, LogTag, NotDurable, OpenLog, QuickWrite, lock_with_spin,
 };
 use rme_durable_lookups::{
     LeaderNote, SessionLookup, StatusNotes, WorkerNotes, clients_of, write_lookup,
@@ -201,10 +201,22 @@ impl<L: LogStore, H: CloseHandle, J: ServerTag> DurableServer<L, H, J> {
         let mut executor = lock_with_spin(rt, &self.executor);
         let acted = executor.execute_noted(rt, &self.names, session, order);
         self.observe(&executor);
-        if let Ok(done) = &acted {
-            self.commits.commit_inline(rt, &mut *executor, &done.end);
-        }
+        let write = match &acted {
+            Ok(done) => self
+                .commits
+                .begin_quick_write(rt, &mut *executor, &done.end),
+            Err(_) => None,
+        };
+        drop(executor);
+        self.end_write(rt, write);
         acted
+    }
+
+    /// Writes the lines of a write, if one was begun. The caller has dropped the executor's lock.
+    pub(crate) fn end_write<R: Wait>(&self, rt: &R, write: Option<QuickWrite<L, J>>) {
+        if let Some(write) = write {
+            self.commits.end_quick_write(rt, write);
+        }
     }
 
     /// Notes whether a checkpoint is due, and whether an event could not be logged. After such a failure the state of

@@ -151,7 +151,9 @@ impl<L: LogStore, H: CloseHandle, J: ServerTag> DurableServer<L, H, J> {
         self.observe(&durable);
         match acted {
             Ok(done) => {
-                self.commits.commit_inline(rt, &mut *durable, &done.end);
+                let write = self.commits.begin_quick_write(rt, &mut *durable, &done.end);
+                drop(durable);
+                self.end_write(rt, write);
                 Ok(Some(done))
             }
             Err(why) => Err(why),

@@ -288,11 +288,18 @@ fn kept_at_once<J: LogTag, R: Wait + Clock + Abort>(
     let start = front.write("one\n").ok_or("appended")?;
     let position = front.write("two\n").ok_or("appended")?;
     assert!(rt; front.wrote_nothing_since(&position) && !front.wrote_nothing_since(&start));
-    commits.commit_inline(rt, &mut *front, &position);
+    let write = commits
+        .begin_quick_write(rt, &mut *front, &position)
+        .ok_or("begun")?;
     assert!(rt; front.lines.is_empty());
+    // No other thread writes meanwhile.
+    let last = front.write("three\n").ok_or("appended")?;
+    assert!(rt; commits.begin_quick_write(rt, &mut *front, &last).is_none());
     drop(front);
+    commits.end_quick_write(rt, write);
     assert!(rt; commits.commit(rt, &source, &position).is_ok());
+    assert!(rt; commits.commit(rt, &source, &last).is_ok());
     let pages = end(rt, &commits).ok_or("kept")?;
-    assert!(rt; pages.has("one\ntwo\n"));
+    assert!(rt; pages.has("one\ntwo\nthree\n"));
     Ok(())
 }
