@@ -29,7 +29,7 @@ rme_order_seconds_bucket{le="0.001"} 1
 rme_order_seconds_bucket{le="+Inf"} 3
 rme_order_seconds_sum 2.000305
 rme_order_seconds_count 3
-# HELP rme_log_write_seconds Seconds of each write to a log, with its sync.
+# HELP rme_log_write_seconds Seconds of a write to a log, with its sync.
 # TYPE rme_log_write_seconds histogram
 rme_log_write_seconds_bucket{le="0.001"} 1
 rme_log_write_seconds_bucket{le="+Inf"} 3
