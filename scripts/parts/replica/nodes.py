@@ -173,7 +173,7 @@ def try_not_there(folder):
 
 def try_full(folder):
     """A cluster has no room: the server ends at once, and the next one goes on when its operator has made room."""
-    with Cluster(os.path.join(folder, "one"), 1, ("--quota-backend-bytes", "150000")) as cluster:
+    with Cluster(os.path.join(folder, "one"), 1, ("--quota-backend-bytes", "300000")) as cluster:
         with Replica(cluster.engines, **SIZES) as server:
             worker = Worker()
             check("it leads", server.leads(), server.told())
