@@ -3,6 +3,7 @@
 //! Each is a value of `ArgumentSpec`, from which a few functions make clap's arguments, since each function that names
 //! a type of clap takes seconds to check.
 
+use clap::builder::ValueParser;
 use clap::{Arg, ArgAction, Command, value_parser};
 use std::alloc::{AllocError, Global};
 
@@ -150,9 +151,29 @@ pub(crate) fn with_arguments<'a>(
     words: &[ArgumentSpec<'a>],
 ) -> Result<Command<'a>, AllocError> {
     for word in words {
-        command = command.arg(arg_of(alloc, word)?)?;
+        command = with_argument(alloc, command, word)?;
     }
     Ok(command)
+}
+
+/// The command with the arguments of each group behind those that it has.
+pub(crate) fn with_groups<'a>(
+    alloc: Global,
+    mut command: Command<'a>,
+    groups: &[&[ArgumentSpec<'a>]],
+) -> Result<Command<'a>, AllocError> {
+    for group in groups {
+        command = with_arguments(alloc, command, group)?;
+    }
+    Ok(command)
+}
+
+fn with_argument<'a>(
+    alloc: Global,
+    command: Command<'a>,
+    word: &ArgumentSpec<'a>,
+) -> Result<Command<'a>, AllocError> {
+    command.arg(arg_of(alloc, word)?)
 }
 
 /// The command with these texts.
@@ -179,36 +200,51 @@ fn demanded<'a>(arg: Arg<'a>, presence: ArgumentPresence<'a>) -> Result<Arg<'a>,
 
 /// The argument with its kind.
 fn given<'a>(arg: Arg<'a>, word: &ArgumentSpec<'a>) -> Arg<'a> {
+    let arg = arg.action(action_of(word.kind));
     match word.kind {
-        ArgumentKind::Flag(letter) => arg.long(word.name).short(letter).action(ArgAction::SetTrue),
-        ArgumentKind::Option(value) => arg.long(word.name).value_name(value).action(ArgAction::Set),
-        ArgumentKind::List(value) => listed(arg.long(word.name).value_name(value)),
-        ArgumentKind::Repeated(value) => {
-            arg.long(word.name)
-                .value_name(value)
-                .action(ArgAction::Append)
+        ArgumentKind::Flag(letter) => arg.long(word.name).short(letter),
+        ArgumentKind::Option(value) | ArgumentKind::Repeated(value) => {
+            named(arg, word.name, value)
         }
-        ArgumentKind::Argument => arg.action(ArgAction::Set),
-        ArgumentKind::Arguments(least) => arg.action(ArgAction::Append).num_args(least..),
+        ArgumentKind::List(value) => named(arg, word.name, value).value_delimiter(','),
+        ArgumentKind::Argument => arg,
+        ArgumentKind::Arguments(least) => arg.num_args(least..),
     }
 }
 
-/// The argument with values separated by commas.
-fn listed(arg: Arg<'_>) -> Arg<'_> {
-    arg.action(ArgAction::Set).value_delimiter(',')
+/// What clap does with an argument of this kind.
+fn action_of(kind: ArgumentKind) -> ArgAction {
+    match kind {
+        ArgumentKind::Flag(_) => ArgAction::SetTrue,
+        ArgumentKind::Option(_) | ArgumentKind::List(_) | ArgumentKind::Argument => ArgAction::Set,
+        ArgumentKind::Repeated(_) | ArgumentKind::Arguments(_) => ArgAction::Append,
+    }
+}
+
+/// The argument as an option of this name, whose value help names like this.
+fn named<'a>(arg: Arg<'a>, name: &'a str, value: &'a str) -> Arg<'a> {
+    arg.long(name).value_name(value)
 }
 
 /// The argument with this type of value.
 fn valued(arg: Arg<'_>, value: ArgumentValue) -> Arg<'_> {
+    match parser_of(value) {
+        Some(parser) => arg.value_parser(parser),
+        None => arg,
+    }
+}
+
+/// How clap checks a value of this type, if not by the argument's action.
+fn parser_of<'a>(value: ArgumentValue) -> Option<ValueParser<'a>> {
     match value {
-        ArgumentValue::Text => arg,
-        ArgumentValue::Number => arg.value_parser(value_parser!(u32)),
-        ArgumentValue::Port => arg.value_parser(value_parser!(u16)),
-        ArgumentValue::ServerPort => arg.value_parser(value_parser!(u16).range(1..=65_535)),
-        ArgumentValue::Count => arg.value_parser(value_parser!(u32).range(1..=1_000_000)),
-        ArgumentValue::Line => arg.value_parser(value_parser!(u64).range(1..=4_294_967_295)),
-        ArgumentValue::Sync => arg.value_parser(SYNCS),
-        ArgumentValue::Waiting => arg.value_parser(WAITING),
-        ArgumentValue::AskWord => arg.value_parser(ASK_WORDS),
+        ArgumentValue::Text => None,
+        ArgumentValue::Number => Some(value_parser!(u32)),
+        ArgumentValue::Port => Some(value_parser!(u16)),
+        ArgumentValue::ServerPort => Some(value_parser!(u16).range(1..=65_535)),
+        ArgumentValue::Count => Some(value_parser!(u32).range(1..=1_000_000)),
+        ArgumentValue::Line => Some(value_parser!(u64).range(1..=4_294_967_295)),
+        ArgumentValue::Sync => Some(ValueParser::Names(SYNCS)),
+        ArgumentValue::Waiting => Some(ValueParser::Names(WAITING)),
+        ArgumentValue::AskWord => Some(ValueParser::Names(ASK_WORDS)),
     }
 }

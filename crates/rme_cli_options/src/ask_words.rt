@@ -1,14 +1,13 @@
 //! Parsing the words after `ask`.
 
-use crate::commands::command;
+use crate::mistake::Mistake;
 use crate::parsing::{USUAL_PORT, text_of, texts_of};
 use crate::tasks::{AnswerForm, AskRequest, AskTask, CreateTask, FinishTask, ServerAddress};
-use clap::error::ErrorKind;
-use clap::{ArgMatches, Error};
+use clap::ArgMatches;
 use std::alloc::{AllocError, Global};
 
 /// The task of the words after `ask`.
-pub(crate) fn ask_task(alloc: Global, found: &ArgMatches<'_>) -> Result<AskTask, Error> {
+pub(crate) fn ask_task<'a>(alloc: Global, found: &ArgMatches<'_>) -> Result<AskTask, Mistake<'a>> {
     let form = if found.get_flag("json") {
         AnswerForm::Json
     } else {
@@ -51,10 +50,10 @@ fn push_ports(servers: &mut Vec<ServerAddress>, found: &ArgMatches<'_>) -> Resul
 }
 
 /// What the server is asked.
-fn ask_request(alloc: Global, found: &ArgMatches<'_>) -> Result<AskRequest, Error> {
+fn ask_request<'a>(alloc: Global, found: &ArgMatches<'_>) -> Result<AskRequest, Mistake<'a>> {
     let word = found.get_str("WORD");
-    if let Some(mistake) = misplaced_option(word, found) {
-        return Err(wrong(alloc, mistake)?);
+    if let Some(text) = misplaced_option(word, found) {
+        return Err(Mistake::ask_words(text));
     }
     match (word, text_of(alloc, found, "NAME")?) {
         (None, None) => Ok(AskRequest::Lines),
@@ -63,26 +62,26 @@ fn ask_request(alloc: Global, found: &ArgMatches<'_>) -> Result<AskRequest, Erro
         (Some("top"), None) => Ok(AskRequest::Top(found.get_one("count"))),
         (Some("spaces"), None) => Ok(AskRequest::Spaces),
         (Some(word), Some(name)) => request_on(alloc, found, word, name),
-        _ => Err(wrong(alloc, rme_cli_help::ask_words_wanted())?),
+        _ => Err(Mistake::ask_words(rme_cli_help::ask_words_wanted())),
     }
 }
 
 /// What the server is asked by a word that takes a name.
-fn request_on(
+fn request_on<'a>(
     alloc: Global,
     found: &ArgMatches<'_>,
     word: &str,
     name: String,
-) -> Result<AskRequest, Error> {
+) -> Result<AskRequest, Mistake<'a>> {
     match word {
         "owner" => Ok(AskRequest::Owner(name)),
         "cells" => Ok(AskRequest::Cells(name)),
-        "finish" => finish_request(alloc, found, name.as_str()),
+        "finish" => finish_request(found, name.as_str()),
         "drop" => Ok(AskRequest::DropSpace(name)),
         "create" if found.contains_id("LOCK") => {
             Ok(AskRequest::CreateSpace(create_task(alloc, found, name)?))
         }
-        _ => Err(wrong(alloc, rme_cli_help::ask_words_wanted())?),
+        _ => Err(Mistake::ask_words(rme_cli_help::ask_words_wanted())),
     }
 }
 
@@ -101,13 +100,9 @@ fn create_task(
 }
 
 /// The request to finish the job of the worker of this word.
-fn finish_request(
-    alloc: Global,
-    found: &ArgMatches<'_>,
-    worker: &str,
-) -> Result<AskRequest, Error> {
+fn finish_request<'a>(found: &ArgMatches<'_>, worker: &str) -> Result<AskRequest, Mistake<'a>> {
     let Ok(worker) = worker.parse::<u32>() else {
-        return Err(wrong(alloc, rme_cli_help::worker_wanted())?);
+        return Err(Mistake::ask_words(rme_cli_help::worker_wanted()));
     };
     Ok(AskRequest::Finish(FinishTask {
         worker,
@@ -140,9 +135,4 @@ fn misplaced_option<'a>(word: Option<&str>, found: &ArgMatches<'_>) -> Option<&'
 /// Whether an option was given that only `finish` has.
 fn has_finish_option(found: &ArgMatches<'_>) -> bool {
     found.get_flag("take") || found.get_flag("withdraw") || found.contains_id("wait")
-}
-
-/// The error of words that do not go together.
-fn wrong(alloc: Global, text: &str) -> Result<Error, Error> {
-    Ok(command(alloc)?.error(ErrorKind::WrongNumberOfValues, text)?)
 }

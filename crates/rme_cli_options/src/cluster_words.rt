@@ -1,10 +1,9 @@
 //! Parsing a log in a cluster: the word `etcd:NAME`, and the options beside it.
 
-use crate::commands::command;
+use crate::mistake::Mistake;
 use crate::parsing::{text_of, texts_of};
 use crate::tasks::{EtcdLogin, EtcdPlace, LeaderSetting, MoveDirection, MoveTask};
-use clap::error::ErrorKind;
-use clap::{ArgMatches, Error};
+use clap::ArgMatches;
 use std::alloc::Global;
 
 /// What the word for a log begins with.
@@ -40,20 +39,20 @@ pub(crate) fn has_leader_option(found: &ArgMatches<'_>) -> bool {
 }
 
 /// The log of this name, in the cluster of the options.
-pub(crate) fn log_place(
+pub(crate) fn log_place<'a>(
     alloc: Global,
     found: &ArgMatches<'_>,
     name: &str,
-) -> Result<EtcdPlace, Error> {
+) -> Result<EtcdPlace, Mistake<'a>> {
     if !is_log_name(name) {
-        return Err(wrong(alloc, rme_cli_help::log_name_wanted())?);
+        return Err(Mistake::conflict(rme_cli_help::log_name_wanted()));
     }
     let engines = texts_of(alloc, found, "engine")?;
     if engines.is_empty() {
-        return Err(wrong(alloc, rme_cli_help::engine_wanted())?);
+        return Err(Mistake::conflict(rme_cli_help::engine_wanted()));
     }
     if !engines.iter().all(|node| is_node(node.as_str())) {
-        return Err(wrong(alloc, rme_cli_help::node_wanted())?);
+        return Err(Mistake::conflict(rme_cli_help::node_wanted()));
     }
     Ok(EtcdPlace {
         name: name.to_string(alloc)?,
@@ -64,7 +63,7 @@ pub(crate) fn log_place(
 }
 
 /// The user of the cluster, if one was given. Each of the two options requires the other.
-fn login_of(alloc: Global, found: &ArgMatches<'_>) -> Result<Option<EtcdLogin>, Error> {
+fn login_of<'a>(alloc: Global, found: &ArgMatches<'_>) -> Result<Option<EtcdLogin>, Mistake<'a>> {
     match (
         text_of(alloc, found, "user")?,
         text_of(alloc, found, "password-file")?,
@@ -73,22 +72,22 @@ fn login_of(alloc: Global, found: &ArgMatches<'_>) -> Result<Option<EtcdLogin>, 
             user,
             password_file,
         })),
-        (Some(_), None) => Err(wrong(alloc, rme_cli_help::password_file_wanted())?),
-        (None, Some(_)) => Err(wrong(alloc, rme_cli_help::user_wanted())?),
+        (Some(_), None) => Err(Mistake::conflict(rme_cli_help::password_file_wanted())),
+        (None, Some(_)) => Err(Mistake::conflict(rme_cli_help::user_wanted())),
         (None, None) => Ok(None),
     }
 }
 
 /// How a server takes the lead of its log.
-pub(crate) fn leader_setting(
+pub(crate) fn leader_setting<'a>(
     alloc: Global,
     found: &ArgMatches<'_>,
-) -> Result<LeaderSetting, Error> {
+) -> Result<LeaderSetting, Mistake<'a>> {
     let Some(address) = text_of(alloc, found, "name")? else {
-        return Err(wrong(alloc, rme_cli_help::address_wanted())?);
+        return Err(Mistake::conflict(rme_cli_help::address_wanted()));
     };
     if !is_address(address.as_str()) {
-        return Err(wrong(alloc, rme_cli_help::other_address_wanted())?);
+        return Err(Mistake::conflict(rme_cli_help::other_address_wanted()));
     }
     Ok(LeaderSetting {
         address,
@@ -98,13 +97,16 @@ pub(crate) fn leader_setting(
 }
 
 /// The task of the words after `move`.
-pub(crate) fn move_task(alloc: Global, found: &ArgMatches<'_>) -> Result<MoveTask, Error> {
+pub(crate) fn move_task<'a>(
+    alloc: Global,
+    found: &ArgMatches<'_>,
+) -> Result<MoveTask, Mistake<'a>> {
     let from = found.get_str("FROM").unwrap_or("");
     let to = found.get_str("TO").unwrap_or("");
     let (direction, file, name) = match (log_name(from), log_name(to)) {
         (None, Some(name)) => (MoveDirection::FileToLog, from, name),
         (Some(name), None) => (MoveDirection::LogToFile, to, name),
-        _ => return Err(wrong(alloc, rme_cli_help::move_words_wanted())?),
+        _ => return Err(Mistake::conflict(rme_cli_help::move_words_wanted())),
     };
     Ok(MoveTask {
         direction,
@@ -137,9 +139,4 @@ fn is_node(word: &str) -> bool {
 fn is_address(word: &str) -> bool {
     let is_short = !word.is_empty() && word.len() <= MOST_ADDRESS;
     is_short && word.bytes().all(|byte| byte.is_ascii_graphic())
-}
-
-/// The error of words that do not go together.
-pub(crate) fn wrong(alloc: Global, text: &str) -> Result<Error, Error> {
-    Ok(command(alloc)?.error(ErrorKind::ArgumentConflict, text)?)
 }

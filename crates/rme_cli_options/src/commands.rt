@@ -2,7 +2,7 @@
 
 use crate::arguments::{
     ArgumentKind, ArgumentSpec, ArgumentValue, command_of, option_of, optional, required,
-    text_option, why, with_arguments,
+    text_option, why, with_arguments, with_groups,
 };
 use crate::{ask_arguments, cluster_arguments, serve_arguments};
 use clap::Command;
@@ -222,20 +222,12 @@ fn serve_command<'a>(alloc: Global) -> Result<Command<'a>, AllocError> {
     let cluster = cluster_arguments::cluster();
     let leader = cluster_arguments::leader();
     let others = serve_arguments::others();
-    let command = command_of(
-        alloc,
-        "serve",
-        rme_cli_help::serve_about(),
-        rme_cli_help::serve_lines(),
-        &sizes,
-    )?;
-    let command = with_arguments(alloc, command, &addresses)?;
-    let command = with_arguments(alloc, command, &files)?;
-    let command = with_arguments(alloc, command, &policies)?;
-    let command = with_arguments(alloc, command, &sessions)?;
-    let command = with_arguments(alloc, command, &cluster)?;
-    let command = with_arguments(alloc, command, &leader)?;
-    with_arguments(alloc, command, &others)
+    let groups: [&[ArgumentSpec]; 8] = [
+        &sizes, &addresses, &files, &policies, &sessions, &cluster, &leader, &others,
+    ];
+    let lines = rme_cli_help::serve_lines();
+    let command = command_of(alloc, "serve", rme_cli_help::serve_about(), lines, &[])?;
+    with_groups(alloc, command, &groups)
 }
 
 fn look_command<'a>(alloc: Global) -> Result<Command<'a>, AllocError> {
@@ -320,14 +312,8 @@ fn ask_command<'a>(alloc: Global) -> Result<Command<'a>, AllocError> {
     let of_finish = ask_arguments::of_finish();
     let of_others = ask_arguments::of_top_and_create();
     let words = ask_arguments::words();
-    let command = command_of(
-        alloc,
-        "ask",
-        rme_cli_help::ask_about(),
-        rme_cli_help::ask_lines(),
-        &server,
-    )?;
-    let command = with_arguments(alloc, command, &of_finish)?;
-    let command = with_arguments(alloc, command, &of_others)?;
-    with_arguments(alloc, command, &words)
+    let groups: [&[ArgumentSpec]; 4] = [&server, &of_finish, &of_others, &words];
+    let lines = rme_cli_help::ask_lines();
+    let command = command_of(alloc, "ask", rme_cli_help::ask_about(), lines, &[])?;
+    with_groups(alloc, command, &groups)
 }

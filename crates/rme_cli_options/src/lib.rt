@@ -14,6 +14,7 @@ mod cluster_arguments;
 mod cluster_words;
 mod command_line;
 mod commands;
+mod mistake;
 mod parsing;
 mod serve_arguments;
 mod tasks;

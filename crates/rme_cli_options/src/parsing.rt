@@ -2,9 +2,10 @@
 
 use crate::ask_words::ask_task;
 use crate::cluster_words::{
-    has_cluster_option, has_leader_option, leader_setting, log_name, log_place, move_task, wrong,
+    has_cluster_option, has_leader_option, leader_setting, log_name, log_place, move_task,
 };
 use crate::commands::command;
+use crate::mistake::Mistake;
 use crate::tasks::{
     CliTask, Diagnostics, DrawTask, DurableServeTask, LineTask, ListenAddresses, LookTask,
     OutputFormat, ReplicatedServeTask, RunImages, ServeTask, ServerLog, SpacesServeTask,
@@ -30,11 +31,42 @@ const CLOSE_AFTER: u32 = 300;
 ///
 /// An error has the text to print: help, the version or the mistake; or its kind is `OutOfMemory`.
 pub fn task_of(alloc: Global, words: &[String]) -> Result<CliTask, Error> {
-    let found = match command(alloc)?.try_get_matches_from(words) {
-        Ok(found) => found,
-        Err(error) => return Err(explain_error(alloc, words, error)?),
-    };
-    if let Some(task) = service_task(alloc, &found)? {
+    match command(alloc)?.try_get_matches_from(words) {
+        Ok(found) => task_of_matches(alloc, &found),
+        Err(error) => Err(explain_error(alloc, words, error)?),
+    }
+}
+
+/// The error in the words. For a `serve` with missing arguments, the shortest valid command comes first.
+fn explain_error(alloc: Global, words: &[String], error: Error) -> Result<Error, AllocError> {
+    let is_serve = words.get(1).is_some_and(|word| word.as_str() == "serve");
+    let kind = ErrorKind::MissingRequiredArgument;
+    if !is_serve || error.kind() != kind {
+        return Ok(error);
+    }
+    let text = rme_cli_help::shortest_start();
+    error_of(alloc, Mistake::Words { kind, text })
+}
+
+/// The task of words that clap takes.
+fn task_of_matches(alloc: Global, found: &ArgMatches<'_>) -> Result<CliTask, Error> {
+    match any_task(alloc, found) {
+        Ok(task) => Ok(task),
+        Err(mistake) => Err(error_of(alloc, mistake)?),
+    }
+}
+
+/// A mistake in clap's form.
+fn error_of(alloc: Global, mistake: Mistake<'_>) -> Result<Error, AllocError> {
+    match mistake {
+        Mistake::NoMemory => Err(AllocError),
+        Mistake::Words { kind, text } => command(alloc)?.error(kind, text),
+    }
+}
+
+/// The task of matches, by the command of which they are.
+fn any_task<'a>(alloc: Global, found: &ArgMatches<'_>) -> Result<CliTask, Mistake<'a>> {
+    if let Some(task) = service_task(alloc, found)? {
         return Ok(task);
     }
     if let Some(ask) = found.subcommand_matches("ask") {
@@ -44,25 +76,13 @@ pub fn task_of(alloc: Global, words: &[String]) -> Result<CliTask, Error> {
         return Ok(CliTask::Move(move_task(alloc, moved)?));
     }
     if let Some(draw) = found.subcommand_matches("draw") {
-        return Ok(CliTask::Draw(draw_task(alloc, draw)?));
+        return Ok(CliTask::Draw(draw_task(draw)?));
     }
-    Ok(CliTask::Lines(line_task(alloc, &found)?))
-}
-
-/// The error in the words. For a `serve` with missing arguments, the shortest valid command comes first.
-fn explain_error(alloc: Global, words: &[String], error: Error) -> Result<Error, Error> {
-    let is_serve = words.get(1).is_some_and(|word| word.as_str() == "serve");
-    if !is_serve || error.kind() != ErrorKind::MissingRequiredArgument {
-        return Ok(error);
-    }
-    Ok(command(alloc)?.error(
-        ErrorKind::MissingRequiredArgument,
-        rme_cli_help::shortest_start(),
-    )?)
+    Ok(CliTask::Lines(line_task(alloc, found)?))
 }
 
 /// The task of words that request a service in threads.
-fn service_task(alloc: Global, found: &ArgMatches<'_>) -> Result<Option<CliTask>, Error> {
+fn service_task<'a>(alloc: Global, found: &ArgMatches<'_>) -> Result<Option<CliTask>, Mistake<'a>> {
     if let Some(threads) = found.subcommand_matches("threads") {
         return Ok(Some(CliTask::Threads(threads_task(alloc, threads)?)));
     }
@@ -76,9 +96,9 @@ fn service_task(alloc: Global, found: &ArgMatches<'_>) -> Result<Option<CliTask>
 }
 
 /// The task of the words after `serve`: for a folder of spaces, for a state in a cluster or in a file, or for neither.
-fn any_serve_task(alloc: Global, found: &ArgMatches<'_>) -> Result<CliTask, Error> {
-    if let Some(mistake) = misplaced_option(found) {
-        return Err(wrong(alloc, mistake)?);
+fn any_serve_task<'a>(alloc: Global, found: &ArgMatches<'_>) -> Result<CliTask, Mistake<'a>> {
+    if let Some(text) = misplaced_option(found) {
+        return Err(Mistake::conflict(text));
     }
     if let Some(folder) = text_of(alloc, found, "spaces")? {
         return Ok(CliTask::ServeSpaces(spaces_serve_task(alloc, found, folder)?));
@@ -127,14 +147,14 @@ fn misplaced_option<'a>(found: &ArgMatches<'_>) -> Option<&'a str> {
 }
 
 /// The task of the words after `draw`. Each number was parsed before, as that of a line.
-fn draw_task(alloc: Global, found: &ArgMatches<'_>) -> Result<DrawTask, Error> {
+fn draw_task<'a>(found: &ArgMatches<'_>) -> Result<DrawTask, Mistake<'a>> {
     let from = found.get_one::<u64>("from");
     let to = found.get_one::<u64>("to");
     if from.unwrap_or(1) > to.unwrap_or(u64::MAX) {
-        return Err(command(alloc)?.error(
-            ErrorKind::ValueValidation,
-            rme_cli_help::draw_lines_in_order(),
-        )?);
+        return Err(Mistake::Words {
+            kind: ErrorKind::ValueValidation,
+            text: rme_cli_help::draw_lines_in_order(),
+        });
     }
     Ok(DrawTask {
         from,
@@ -144,13 +164,13 @@ fn draw_task(alloc: Global, found: &ArgMatches<'_>) -> Result<DrawTask, Error> {
 }
 
 /// The task of the words after `look`.
-fn look_task(alloc: Global, found: &ArgMatches<'_>) -> Result<LookTask, Error> {
+fn look_task<'a>(alloc: Global, found: &ArgMatches<'_>) -> Result<LookTask, Mistake<'a>> {
     let form = look_form(found);
     let state = text_of(alloc, found, "FILE")?.unwrap_or(String::new(alloc));
     let log = match log_name(state.as_str()) {
         Some(name) => Some(log_place(alloc, found, name)?),
         None if has_cluster_option(found) => {
-            return Err(wrong(alloc, rme_cli_help::cluster_options_alone())?);
+            return Err(Mistake::conflict(rme_cli_help::cluster_options_alone()));
         }
         None => None,
     };
@@ -240,7 +260,7 @@ pub(crate) fn text_of(
 }
 
 /// The task of the words after `threads`. Each number was parsed before, as an argument of its type.
-fn threads_task(alloc: Global, found: &ArgMatches<'_>) -> Result<ThreadsTask, Error> {
+fn threads_task(alloc: Global, found: &ArgMatches<'_>) -> Result<ThreadsTask, AllocError> {
     let mut falls = Vec::new(alloc);
     if let Some(given) = found.get_many::<u32>("FALL") {
         for fall in given {

@@ -15,7 +15,7 @@ use rme_cli_durable::{
     split_task,
 };
 use rme_cli_http::HttpPort;
-use rme_cli_keys::open_keys;
+use rme_cli_keys::{KeysFile, open_keys};
 use rme_cli_listen::listen;
 use rme_cli_messages::CliFault;
 use rme_cli_options::{EtcdPlace, LeaderSetting, ListenAddresses, ReplicatedServeTask, ServerLog};
@@ -87,6 +87,11 @@ struct LeadNotes<'f> {
 /// The state in a log, as it was read: nothing was changed yet.
 type FoundState<'a> = RecoveredFile<'a, ReplicaState<NotedEngine<'a>>>;
 
+/// A server that leads a log.
+type LeadSite<'a> = StateSite<'a, LeadWatch<'a>>;
+
+type Listeners = (Listener, Option<Listener>);
+
 impl LeadRequest<'_> {
     /// Stands by until it leads, and serves.
     fn serve<R: Threads + Wait + Clock + Sync>(&self, threads: &R) -> Result<u8, ClusterFault> {
@@ -141,47 +146,65 @@ impl LeadRequest<'_> {
         notes: LeadNotes<'f>,
         term: Option<u64>,
     ) -> Result<Option<u8>, ClusterFault> {
-        let alloc = self.rt.alloc();
-        let keys = match open_keys(self.rt, copy_of(alloc, self.keys)?) {
+        let keys = match open_keys(self.rt, copy_of(self.rt.alloc(), self.keys)?) {
             Ok(keys) => keys,
             Err(refused) => return Ok(Some(refused.status())),
         };
-        let address = String::from_str(alloc, self.leader.address.as_str())?;
-        let (found, growth) = self.find_state(notes.name, notes.note)?;
+        let found = self.find_state(notes.name, notes.note)?;
         if term.is_some_and(|term| term != notes.note.term()) {
             return Ok(None);
         }
-        let http = HttpPort::listen(self.rt, self.http)?;
-        let places = copy_of_places(alloc, self.places)?;
-        let (listeners, bound) = listen(self.rt, places, self.limits)?;
-        let counters = match &http {
-            Some(_) => Some(notes.writes),
-            None => None,
-        };
         let watch = LeadWatch {
             place: self.place,
             note: notes.note,
         };
+        let (site, listeners) = self.listen(keys, &watch, notes.writes)?;
+        let served = self.claim(threads, &site, listeners, found);
+        site.bound.addresses.clear(self.rt);
+        served
+    }
+
+    /// Listens for clients, with these keys.
+    fn listen<'f>(
+        &'f self,
+        keys: Option<KeysFile<'f>>,
+        watch: &'f LeadWatch<'f>,
+        writes: &'f LogCounters,
+    ) -> Result<(LeadSite<'f>, Listeners), ClusterFault> {
+        let http = HttpPort::listen(self.rt, self.http)?;
+        let places = copy_of_places(self.rt.alloc(), self.places)?;
+        let (listeners, bound) = listen(self.rt, places, self.limits)?;
         let site = StateSite {
             rt: self.rt,
             bound,
             http,
             log: self.log,
             keys,
-            watch: &watch,
+            watch,
             setting: self.setting,
-            writes: notes.writes,
+            writes,
         };
-        let served = match open_grown(self.rt, found, growth) {
+        Ok((site, listeners))
+    }
+
+    /// Claims the log of a state that was read, and serves it.
+    fn claim<'f, R: Threads + Wait + Clock + Sync>(
+        &self,
+        threads: &R,
+        site: &LeadSite<'f>,
+        listeners: Listeners,
+        (found, growth): (FoundState<'f>, Option<Growth>),
+    ) -> Result<Option<u8>, ClusterFault> {
+        let note = site.watch.note;
+        let address = String::from_str(self.rt.alloc(), self.leader.address.as_str())?;
+        match open_grown(self.rt, found, growth) {
             Ok(opened) => {
-                let leader = notes.note.leader(address);
-                let state = state_and_cluster_log(self.rt, counters, opened, leader);
-                serve_claimed(threads, &site, listeners, state)
+                let leader = note.leader(address);
+                let state = state_and_cluster_log(site.rt, site.counted_writes(), opened, leader);
+                serve_claimed(threads, site, listeners, state)
             }
-            Err(fault) => self.not_claimed(fault, notes.note),
-        };
-        site.bound.addresses.clear(self.rt);
-        served
+            Err(fault) => self.not_claimed(fault, note),
+        }
     }
 
     /// What it means that the log was not claimed: `None` if another server was faster.
@@ -199,23 +222,31 @@ impl LeadRequest<'_> {
         name: &'f StateName,
         note: &'f LeadNote,
     ) -> Result<(FoundState<'f>, Option<Growth>), ClusterFault> {
+        let state = self.read_state(note)?;
+        let found = RecoveredFile::read(self.rt, StateFile::new(name, state, true))?;
+        let growth = growth_of(self.rt, self.asked, found.log())?;
+        Ok((found, growth))
+    }
+
+    /// The log, as it was read.
+    fn read_state<'f>(
+        &self,
+        note: &'f LeadNote,
+    ) -> Result<ReplicaState<NotedEngine<'f>>, ClusterFault> {
         let alloc = self.rt.alloc();
-        let engine = NotedEngine {
-            engine: open_cluster(self.rt, self.place, storing_limits(self.place))?,
-            note,
-        };
         let by = Claimant {
             address: String::from_str(alloc, self.leader.address.as_str())?,
             writer: new_writer(self.rt)?,
         };
-        let state = match ReplicaState::read(alloc, engine, by) {
-            Ok(state) => state,
-            Err(ReadFault::NoMemory) => return Err(ClusterFault::Cli(CliFault::NoMemory)),
-            Err(ReadFault::Lost) => return Err(self.read_fault(note)),
+        let engine = NotedEngine {
+            engine: open_cluster(self.rt, self.place, storing_limits(self.place))?,
+            note,
         };
-        let found = RecoveredFile::read(self.rt, StateFile::new(name, state, true))?;
-        let growth = growth_of(self.rt, self.asked, found.log())?;
-        Ok((found, growth))
+        match ReplicaState::read(alloc, engine, by) {
+            Ok(state) => Ok(state),
+            Err(ReadFault::NoMemory) => Err(ClusterFault::Cli(CliFault::NoMemory)),
+            Err(ReadFault::Lost) => Err(self.read_fault(note)),
+        }
     }
 
     /// The fault of a log that could not be read.
@@ -241,8 +272,8 @@ impl LeadRequest<'_> {
 /// Serves a state whose log was claimed.
 fn serve_claimed<R: Threads + Wait + Clock + Sync>(
     threads: &R,
-    site: &StateSite<'_, LeadWatch<'_>>,
-    listeners: (Listener, Option<Listener>),
+    site: &LeadSite<'_>,
+    listeners: Listeners,
     state: StateAndLog<ClusterLog<'_>>,
 ) -> Result<Option<u8>, ClusterFault>
     requires lines { state.executor.lines ≡ [] }

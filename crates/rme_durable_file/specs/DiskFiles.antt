@@ -14,6 +14,11 @@ CutsFile before length after = after ≡ option_map (λ bytes. take length bytes
 abbrev pub AppendsToFile : Option (List ℕ) → List ℕ → Option (List ℕ) → Type 0
 AppendsToFile before lines after = after ≡ option_map (λ bytes. bytes ++ lines) before
 
+-- What is behind the first `length` bytes is cut off, and then these lines are appended.
+abbrev pub CutsAndAppends : Option (List ℕ) → ℕ → List ℕ → Option (List ℕ) → Type 0
+CutsAndAppends before length lines after =
+    (cut : Option (List ℕ)) × CutsFile before length cut × AppendsToFile cut lines after
+
 -- All earlier bytes are still there, perhaps with a part of the lines after them.
 abbrev pub AppendsPartToFile : Option (List ℕ) → List ℕ → Option (List ℕ) → Type 0
 AppendsPartToFile before lines after = (count : ℕ) × AppendsToFile before (take count lines) after

@@ -26,6 +26,15 @@ abbrev pub ReadsKnownLog : Option (List ℕ) → RecoveredLog → Type 0
 ReadsKnownLog bytes log =
     (whole : ℕ) × (found : RecoveredState) × ReadsKnownState bytes whole found × (log ≡ found.log)
 
+-- An executor begins with a recovered state, in which no session has a worker: it has crashed each worker that was up.
+pub record BeginsFrom (found : RecoveredState) (epoch : EpochState) : Type 0 where
+  pub base : epoch.base ≡ found.base
+  pub lives : epoch.lives ≡ found.log.lives.items
+  pub number : epoch.epoch ≡ found.log.header.epoch
+  pub crashed : HasCrashedAll found.log.world epoch.executor.world
+  pub nobody : epoch.executor.holders ≡ replicate found.log.world.shape.workers None
+  pub works : epoch.failed ≡ false
+
 -- A server begins with the state in the whole lines of a file, its lives among it, in which no session has a worker:
 -- it crashes each worker that was up, and a line for each of these crashes is in the file behind the whole lines. It
 -- counts all bytes of that file as the epoch's; the greatest `u64` if that is smaller.
@@ -34,12 +43,7 @@ pub record BeginsServer (bytes : List ℕ) (names : List (List ℕ)) (epoch : Ep
   pub found : RecoveredState
   pub reads : ReadsState bytes whole found
   pub names_are : names ≡ found.log.names
-  pub base : epoch.base ≡ found.base
-  pub lives : epoch.lives ≡ found.log.lives.items
-  pub number : epoch.epoch ≡ found.log.header.epoch
-  pub crashed : HasCrashedAll found.log.world epoch.executor.world
-  pub nobody : epoch.executor.holders ≡ replicate found.log.world.shape.workers None
-  pub works : epoch.failed ≡ false
+  pub begins : BeginsFrom found epoch
   pub crashes : List ℕ
   pub written : AppendsCommands names [] (crash_commands_from 0 found.log.world.privates) crashes
   pub after_is : after ≡ reads.lines ++ crashes

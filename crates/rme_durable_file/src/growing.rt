@@ -2,7 +2,7 @@
 
 ghost use Rattle.std.specs.Prelude.{◌≡◌, ℕ, [], List, IfOk, IsTrue, OnOk, true};
 ghost use Rattle.rme_durable_file.specs.DiskFiles.{AppendsToFile};
-ghost use Rattle.rme_durable_file.specs.Growths.{KeepsNames, LeavesLocks, ReplacesByLargerEpoch};
+ghost use Rattle.rme_durable_file.specs.Growths.{GrowsState, KeepsNames, LeavesLocks, ReplacesByLargerEpoch, file_epoch};
 
 use crate::faults::{not_grown_fault, write_fault};
 use crate::start::OpenedState;
@@ -29,7 +29,7 @@ impl<'a, F: StateStorage> OpenedState<'a, F> {
     /// After an error the file is a state of the old shape. It may have more lines than before: those by which a worker
     /// that crashed after its section leaves its lock.
     pub fn grow(
-        self,
+        mut self,
         rt: &HostRuntime,
         names: Names,
         shape: Shape,
@@ -44,23 +44,45 @@ impl<'a, F: StateStorage> OpenedState<'a, F> {
             (file_epoch self.entry.names self.entry.executor self.entry.file.bytes)
             (file_epoch state.names state.executor state.file.bytes)) }
     {
-        let OpenedState {
-            names: own,
-            executor,
-            file,
-        } = self;
-        let (mut executor, mut file) = (executor, file);
-        if !keeps_names(&own, &names) {
-            return Err(not_grown_fault(rt, file.path())?);
-        }
-        log_exits(rt, &own, &mut executor, &mut file)?;
-        let executor = replace_by_larger(rt, &executor, &names, shape, &mut file)?;
-        Ok(OpenedState {
+        let larger = write_larger(rt, &mut self, &names, shape)?;
+        Ok(self.with_epoch(names, larger))
+    }
+
+    /// The same file with these names and this executor.
+    fn with_epoch(self, names: Names, executor: EpochExecutor) -> OpenedState<'a, F>
+        ensures names { result.names ≡ names }
+        ensures executor { result.executor ≡ executor }
+        ensures file { result.file ≡ self.entry.file }
+    {
+        OpenedState {
             names,
             executor,
-            file,
-        })
+            file: self.file,
+        }
     }
+}
+
+/// Writes a new epoch of this larger shape into the file of a state, and answers the executor of that.
+fn write_larger<F: StateStorage>(
+    rt: &HostRuntime,
+    state: &mut OpenedState<'_, F>,
+    names: &Names,
+    shape: Shape,
+) -> Result<EpochExecutor, CliFault>
+    requires works { state.old.file.works ≡ true }
+    ensures works { OnOk result (state.new.file.works ≡ true) }
+    ensures syncs { state.new.file.syncs ≡ state.old.file.syncs }
+    ensures barriers { OnOk result (state.new.file.barriers ≡ 0) }
+    ensures lines { IfOk result (λ larger. larger.lines ≡ []) }
+    ensures grows { IfOk result (λ larger. GrowsState shape
+        (file_epoch state.old.names state.old.executor state.old.file.bytes)
+        (file_epoch names.now larger state.new.file.bytes)) }
+{
+    if !keeps_names(&state.names, names) {
+        return Err(not_grown_fault(rt, state.file.path())?);
+    }
+    log_exits(rt, &state.names, &mut state.executor, &mut state.file)?;
+    replace_by_larger(rt, &state.executor, names, shape, &mut state.file)
 }
 
 /// Lets each worker leave its lock that crashed after its section, and appends the lines of that.

@@ -3,6 +3,8 @@
 ghost use Rattle.std.specs.Prelude.{◌≡◌, [], IfOk, OnOk, string_bytes};
 ghost use Rattle.rme_durable_format.specs.BatchCommands.{crash_commands_from};
 ghost use Rattle.rme_durable_format.specs.CommandLines.{AppendsCommands};
+ghost use Rattle.rme_durable_file.specs.DiskFiles.{CutsAndAppends};
+ghost use Rattle.rme_durable_file.specs.Starts.{BeginsFrom};
 
 use crate::faults::{unread_fault, write_fault};
 use crate::reading::{ReadState, bad_log_fault, recover_reporting};
@@ -99,34 +101,74 @@ impl<'a, F: StateStorage> RecoveredFile<'a, F> {
             whole,
         } = self;
         let mut file = file;
-        let crashes = crash_lines(rt.alloc(), &recovered.log)?;
-        if let Err(error) = file.begin(whole) {
-            return Err(write_fault(rt, file.path(), error)?);
-        }
-        if let Err(error) = file.write(crashes.as_bytes()) {
-            return Err(write_fault(rt, file.path(), error)?);
-        }
-        let RecoveredState { log, base } = recovered;
-        let RecoveredLog {
-            header,
-            names,
-            world,
-            lives,
-            ..
-        } = log;
-        let executor = Executor::new(rt.alloc(), world)?;
-        let start = EpochStart {
-            executor,
-            base,
-            lives,
-            epoch: header.epoch,
-            bytes: whole.saturating_add(crashes.len()) as u64,
-        };
+        let crashes = log_crashes(rt, &recovered.log, whole, &mut file)?;
+        let bytes = whole.saturating_add(crashes.len()) as u64;
+        let begun = begin_epoch(rt.alloc(), recovered, bytes)?;
         Ok(OpenedState {
-            names,
-            executor: EpochExecutor::new(rt.alloc(), start),
+            names: begun.names,
+            executor: begun.executor,
             file,
         })
+    }
+}
+
+/// A recovered state whose workers are all down.
+#[derive(Drop)]
+struct BegunEpoch {
+    names: Names,
+    executor: EpochExecutor,
+}
+
+/// Crashes each worker of a recovered state whose file has this number of bytes.
+fn begin_epoch(alloc: Global, recovered: RecoveredState, bytes: u64) -> Result<BegunEpoch, CliFault>
+    ensures names { IfOk result (λ begun. begun.names ≡ recovered.log.names) }
+    ensures lines { IfOk result (λ begun. begun.executor.lines ≡ []) }
+    ensures taken { IfOk result (λ begun. begun.executor.taken ≡ bytes) }
+    ensures begins { IfOk result (λ begun. BeginsFrom recovered begun.executor) }
+{
+    let RecoveredState { log, base } = recovered;
+    let RecoveredLog {
+        header,
+        names,
+        world,
+        lives,
+        ..
+    } = log;
+    let executor = Executor::new(alloc, world)?;
+    let start = EpochStart {
+        executor,
+        base,
+        lives,
+        epoch: header.epoch,
+        bytes,
+    };
+    Ok(BegunEpoch {
+        names,
+        executor: EpochExecutor::new(alloc, start),
+    })
+}
+
+/// Cuts off the torn line of a file, appends a crash of each worker that was up, and answers these lines.
+fn log_crashes<F: StateStorage>(
+    rt: &HostRuntime,
+    log: &RecoveredLog,
+    whole: usize,
+    file: &mut StateFile<'_, F>,
+) -> Result<String, CliFault>
+    ensures lines { IfOk result (λ lines. AppendsCommands log.now.names []
+        (crash_commands_from 0 log.now.world.privates) (string_bytes lines)) }
+    ensures kept { IfOk result (λ lines. CutsAndAppends file.old.bytes whole (string_bytes lines) file.new.bytes) }
+    ensures works { file.new.works ≡ file.old.works }
+    ensures syncs { file.new.syncs ≡ file.old.syncs }
+    ensures barriers { OnOk result (file.new.barriers ≡ 0) }
+{
+    let crashes = crash_lines(rt.alloc(), log)?;
+    if let Err(error) = file.begin(whole) {
+        return Err(write_fault(rt, file.path(), error)?);
+    }
+    match file.write(crashes.as_bytes()) {
+        Ok(()) => Ok(crashes),
+        Err(error) => Err(write_fault(rt, file.path(), error)?),
     }
 }
 
