@@ -44,8 +44,8 @@ struct CommitState<L: LogStore, J: LogTag> {
     spare: String,
 }
 
-/// A write that was begun: the writer, which no other thread has meanwhile, and the lines. `end_quick_write` ends it.
-#[derive(Drop)]
+/// A write that was begun: the writer, which no other thread has meanwhile, and the lines. `end_quick_write` ends it. It
+/// cannot be dropped: if it were, no thread could write again.
 pub struct QuickWrite<L: LogStore, J: LogTag> {
     held: LogWriter<L, J>,
     /// `None` if an event could not be written as a line.

@@ -214,8 +214,9 @@ impl<L: LogStore, H: CloseHandle, J: ServerTag> DurableServer<L, H, J> {
 
     /// Writes the lines of a write, if one was begun. The caller has dropped the executor's lock.
     pub(crate) fn end_write<R: Wait>(&self, rt: &R, write: Option<QuickWrite<L, J>>) {
-        if let Some(write) = write {
-            self.commits.end_quick_write(rt, write);
+        match write {
+            Some(write) => self.commits.end_quick_write(rt, write),
+            None => {}
         }
     }
 

@@ -4,7 +4,7 @@ ghost use Rattle.std.specs.Prelude.{◌≡◌, [], IfOk, true};
 
 use rme_durable_log::{
     GroupCommit, LogAppender, LogAuthor, LogPosition, LogStore, LogTag, LogWriter, NotDurable,
-    OpenLog, PendingBatch, PendingLines,
+    OpenLog, PendingBatch, PendingLines, QuickWrite,
 };
 use std::alloc::{AllocError, Global};
 use std::marker::{Brand, Model};
@@ -293,13 +293,30 @@ fn kept_at_once<J: LogTag, R: Wait + Clock + Abort>(
         .ok_or("begun")?;
     assert!(rt; front.lines.is_empty());
     // No other thread writes meanwhile.
-    let last = front.write("three\n").ok_or("appended")?;
-    assert!(rt; commits.begin_quick_write(rt, &mut *front, &last).is_none());
+    let last = front.write("three\n");
+    let second = commits.begin_quick_write(rt, &mut *front, &position);
     drop(front);
     commits.end_quick_write(rt, write);
+    assert!(rt; !ends_quick_write(rt, &commits, second));
+    let last = last.ok_or("appended")?;
     assert!(rt; commits.commit(rt, &source, &position).is_ok());
     assert!(rt; commits.commit(rt, &source, &last).is_ok());
     let pages = end(rt, &commits).ok_or("kept")?;
     assert!(rt; pages.has("one\ntwo\nthree\n"));
     Ok(())
+}
+
+/// Ends a write, and tells whether there was one.
+fn ends_quick_write<J: LogTag, R: Wait>(
+    rt: &R,
+    commits: &GroupCommit<Pages, J>,
+    write: Option<QuickWrite<Pages, J>>,
+) -> bool {
+    match write {
+        Some(write) => {
+            commits.end_quick_write(rt, write);
+            true
+        }
+        None => false,
+    }
 }
