@@ -40,6 +40,8 @@ struct StateOfBytes {
     recovered: RecoveredState,
     /// The number of bytes whose lines are the log's; in version 1 they may end with a torn line.
     length: usize,
+    /// The number of bytes behind them, apart from room for further writes.
+    torn: usize,
     /// The number of bytes of whole lines among them.
     whole: usize,
 }
@@ -78,6 +80,7 @@ fn state_of(rt: &HostRuntime, source: StateBytes<'_>) -> Result<StateOfBytes, No
         Ok(recovered) => Ok(StateOfBytes {
             recovered,
             length: contents.length,
+            torn: contents.torn,
             whole: contents.length.saturating_sub(torn),
         }),
         Err(BadLog::Line(line)) => {
@@ -125,29 +128,51 @@ pub(crate) fn push_state(
     source: StateBytes<'_>,
     form: OutputFormat,
 ) -> Result<u8, CliFault> {
-    let state = match state_of(rt, source) {
-        Ok(state) => state,
-        Err(NoStateFault::Line(line, _)) if form == OutputFormat::Check => {
-            return push_refused_line(out, line);
-        }
-        Err(why) => return Err(why.into_fault()),
-    };
-    match form {
-        OutputFormat::Check => push_accepted(out, source.bytes, state.length),
-        OutputFormat::Json => Ok(push_json(out, &state.recovered)?),
-        OutputFormat::AllTables => Ok(push_tables(out, rt.alloc(), &state.recovered, true)?),
-        _ => Ok(push_tables(out, rt.alloc(), &state.recovered, false)?),
+    match state_of(rt, source) {
+        Ok(state) => push_accepted_state(out, rt.alloc(), (source.bytes, &state), form),
+        Err(why) => push_refused_state(out, why, form),
     }
 }
 
-/// Appends that a start accepts the file, up to this number of bytes, and answers the status.
-fn push_accepted(out: &mut String, bytes: &[u8], length: usize) -> Result<u8, CliFault> {
-    let torn = bytes.len().saturating_sub(length);
+/// Appends the contents of a state that a start accepts, and answers the status of the process.
+fn push_accepted_state(
+    out: &mut String,
+    alloc: Global,
+    (bytes, state): (&[u8], &StateOfBytes),
+    form: OutputFormat,
+) -> Result<u8, CliFault> {
+    match form {
+        OutputFormat::Check => push_accepted(out, bytes, state),
+        OutputFormat::Json => Ok(push_json(out, &state.recovered)?),
+        OutputFormat::AllTables => Ok(push_tables(out, alloc, &state.recovered, true)?),
+        _ => Ok(push_tables(out, alloc, &state.recovered, false)?),
+    }
+}
+
+/// Appends, if only that was asked for, the line that a start refuses, and answers the status.
+fn push_refused_state(
+    out: &mut String,
+    why: NoStateFault,
+    form: OutputFormat,
+) -> Result<u8, CliFault> {
+    match why {
+        NoStateFault::Line(line, _) if form == OutputFormat::Check => push_refused_line(out, line),
+        why => Err(why.into_fault()),
+    }
+}
+
+/// Appends that a start accepts the file, up to the end of the log, and answers the status.
+fn push_accepted(
+    out: &mut String,
+    bytes: &[u8],
+    state: &StateOfBytes,
+) -> Result<u8, CliFault> {
+    let torn = state.torn;
     if torn == 0 {
         out.push_str("yes\n")?;
         return Ok(0);
     }
-    let lines = bytes[..length.min(bytes.len())]
+    let lines = bytes[..state.length.min(bytes.len())]
         .iter()
         .filter(|byte| **byte == b'\n')
         .count();

@@ -15,8 +15,8 @@ pub(crate) struct MovedState {
     /// All its lines, as one write: what was moved is with the disk, so each change of it later is noticed.
     pub(crate) write: Vec<u8>,
     pub(crate) epoch: u64,
-    /// The number of bytes behind the last write, which were never known to be with the disk. As by a start, they are
-    /// left out.
+    /// The number of bytes behind the last write, apart from room, which were never known to be with the disk. As by a
+    /// start, they are left out.
     pub(crate) torn: usize,
 }
 
@@ -48,7 +48,7 @@ pub(crate) fn moved_state(
         Ok(()) => Ok(MovedState {
             write,
             epoch,
-            torn: bytes.len().saturating_sub(contents.length),
+            torn: contents.torn,
         }),
         Err(SealError::NoMemory) => Err(MoveFault::from(CliFault::NoMemory)),
         // The lines of a state have neither, so this is not reached.

@@ -19,6 +19,9 @@ pub struct FileContents {
     pub lines: Vec<u8>,
     /// The number of bytes of the file that hold these lines. What follows was never known to be with the disk.
     pub length: usize,
+    /// The number of bytes behind them, up to the last one that is not zero. Zeros at the end of a file are room for
+    /// further writes.
+    pub torn: usize,
     /// How the next write is made.
     pub(crate) form: WriteForm,
 }
@@ -64,6 +67,7 @@ impl FileContents {
             ) => Ok(FileContents {
                 lines,
                 length,
+                torn: without_zeros(bytes).saturating_sub(length),
                 form: WriteForm::Sealed(sealer),
             }),
             Err(ReadError::NoMemory) => Err(ContentsError::NoMemory),
@@ -77,8 +81,17 @@ impl FileContents {
         Ok(FileContents {
             lines: bytes.to_vec(alloc)?,
             length: bytes.len(),
+            torn: 0,
             form: WriteForm::Plain,
         })
+    }
+}
+
+/// The number of these bytes without the zeros at their end.
+fn without_zeros(bytes: &[u8]) -> usize {
+    match bytes.iter().rposition(|byte| *byte != 0) {
+        Some(last) => last.saturating_add(1),
+        None => 0,
     }
 }
 

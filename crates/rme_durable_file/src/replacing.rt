@@ -168,7 +168,7 @@ fn replacement_name(alloc: Global, path: &str) -> Result<String, AllocError> {
     format!(in alloc; "{path}{RENEWAL}")
 }
 
-/// Makes the new file, readable only by this user, for appends. A leftover under its name is removed; anything else
+/// Makes the new file, readable only by this user. A leftover under its name is removed; anything else
 /// there stays, and is an error.
 fn create_replacement(rt: &HostRuntime, beside: &str) -> Result<File, Cause> {
     match inspect_leftover(rt, beside)? {
@@ -179,7 +179,7 @@ fn create_replacement(rt: &HostRuntime, beside: &str) -> Result<File, Cause> {
     let mut options = OpenOptions::new();
     options
         .read(true)
-        .append(true)
+        .write(true)
         .create_new(true)
         .mode(PRIVATE);
     Ok(options.open(rt, beside)?)

@@ -15,8 +15,15 @@ use rme_cli_messages::{BadArgument, CliFault, escape_controls};
 use rme_durable_writes::{SealError, WriteSealer};
 use std::alloc::Global;
 use std::fs::{File, OpenOptions, TryLockError};
-use std::io::{ErrorKind, Read, Write};
+use std::io::{ErrorKind, Read};
+use std::os::unix::fs::FileExt;
 use std::{fs, io};
+
+/// The bounds of the bytes of room that are made at once for writes that the disk must have. Between them the room is as
+/// long as the log, so that a file is at most twice as long as its log, and 16 KiB.
+const LEAST_ROOM: u64 = 16 << 10;
+
+const MOST_ROOM: u64 = 1 << 20;
 
 /// The number of tries to open a file that was replaced meanwhile.
 const TURNS: u32 = 10;
@@ -33,8 +40,12 @@ pub struct SystemFile<'a> {
     sealer: WriteSealer,
     /// The last write that was made. Its memory serves for the next.
     write: Vec<u8>,
-    /// The number of bytes that held lines when the file was read.
-    length: usize,
+    /// The number of bytes of the log: the place of the next write.
+    length: u64,
+    /// The length of the file with the room behind the log, if that could be made.
+    room_end: u64,
+    /// The number of bytes behind the log, apart from room, when the file was read.
+    torn: usize,
 }
 
 /// The outcome of one try to open a file.
@@ -109,6 +120,8 @@ fn system_file<'a>(
         sealer: WriteSealer::new(rt.alloc())?,
         write: Vec::new(rt.alloc()),
         length: 0,
+        room_end: 0,
+        torn: 0,
     })
 }
 
@@ -138,10 +151,10 @@ fn is_regular_file(rt: &HostRuntime, path: &str) -> Result<bool, CliFault> {
     }
 }
 
-/// Opens a file to read it and to append to it, and locks it.
+/// Opens a file to read and to write it, and locks it.
 fn open_locked(rt: &HostRuntime, path: &str) -> Result<File, CliFault> {
     let mut options = OpenOptions::new();
-    options.read(true).append(true);
+    options.read(true).write(true);
     let file = match options.open(rt, path) {
         Ok(file) => file,
         Err(error) => return Err(read_fault(rt, path, error)?),
@@ -173,10 +186,12 @@ impl StateStorage for SystemFile<'_> {
                 FileContents {
                     lines,
                     length,
+                    torn,
                     form,
                 },
             ) => {
-                self.length = length;
+                self.length = length as u64;
+                self.torn = torn;
                 match form {
                     WriteForm::Plain => self.is_sealed = false,
                     WriteForm::Sealed(sealer) => {
@@ -204,15 +219,17 @@ impl StateStorage for SystemFile<'_> {
         }
         if self.is_sealed {
             self.tell_cut()?;
-            self.cut(self.length as u64)
         } else {
-            self.cut(length as u64)
+            self.length = length as u64;
         }
+        self.room_end = self.length;
+        self.cut(self.length)
     }
 
     fn append(&mut self, lines: &[u8], syncs: bool) -> io::Result<()> {
         self.write_lines(lines)?;
         if syncs {
+            self.make_room();
             self.file.sync_data()?;
             self.sealer.mark_durable();
         }
@@ -229,6 +246,8 @@ impl StateStorage for SystemFile<'_> {
         } = replace_file(self.rt, self.name.path(), &self.file, write.as_slice())?;
         self.name.set(&found);
         self.file = file;
+        self.length = write.len() as u64;
+        self.room_end = self.length;
         // The new file was synced before it had the name.
         self.sealer.begin_log();
         self.is_sealed = true;
@@ -246,17 +265,35 @@ impl StateStorage for SystemFile<'_> {
 }
 
 impl SystemFile<'_> {
-    /// Writes lines; nothing for no bytes.
+    /// Writes lines behind the log; nothing for no bytes.
     fn write_lines(&mut self, lines: &[u8]) -> io::Result<()> {
         if lines.is_empty() {
             return Ok(());
         }
-        if !self.is_sealed {
-            return self.file.write_all(lines);
+        let bytes = if self.is_sealed {
+            if let Err(why) = self.sealer.seal(lines, &mut self.write) {
+                return Err(seal_error(why));
+            }
+            self.write.as_slice()
+        } else {
+            lines
+        };
+        self.file.write_all_at(bytes, self.length)?;
+        self.length = self.length.saturating_add(bytes.len() as u64);
+        Ok(())
+    }
+
+    /// Writes zeros behind the log, if it has filled the room that was made before. The disk has a write to blocks that
+    /// the file has already in two thirds of the time, since the file system has nothing to note of it. The next sync is
+    /// theirs too. Without room the log goes on as well, so a failure is ignored; room is tried again only behind it.
+    fn make_room(&mut self) {
+        if !self.is_sealed || self.length <= self.room_end {
+            return;
         }
-        match self.sealer.seal(lines, &mut self.write) {
-            Ok(()) => self.file.write_all(self.write.as_slice()),
-            Err(why) => Err(seal_error(why)),
+        let room = self.length.clamp(LEAST_ROOM, MOST_ROOM);
+        self.room_end = self.length.saturating_add(room);
+        if let Ok(zeros) = Vec::from_elem(self.rt.alloc(), 0u8, room as usize) {
+            let _ = self.file.write_all_at(zeros.as_slice(), self.length);
         }
     }
 
@@ -268,13 +305,9 @@ impl SystemFile<'_> {
         Ok(())
     }
 
-    /// Says how many bytes are cut off behind the last write.
+    /// Says how many bytes are cut off behind the last write. Room is none of them.
     fn tell_cut(&self) -> io::Result<()> {
-        let torn = self
-            .file
-            .metadata()?
-            .len()
-            .saturating_sub(self.length as u64);
+        let torn = self.torn;
         if torn > 0 {
             let path = escape_controls(self.rt.alloc(), self.name.path())?;
             let _ = eprintln!(self.rt;
