@@ -12,13 +12,14 @@ use rme_cli_http::{HttpPort, MeteredSite, ServicePages, serve_metered};
 use rme_cli_keys::{KeysFile, keyed, open_keys};
 use rme_cli_listen::{BoundServer, StderrObserver, listen};
 use rme_cli_messages::{CliFault, why_not_locks, why_not_sizes};
-use rme_cli_options::{Diagnostics, ServeTask, ServerLog};
+use rme_cli_options::{Diagnostics, ListenAddresses, ServeTask, ServerLog};
 use rme_line_diagnose::SessionWords;
 use rme_metrics::ServerCounters;
 use rme_server::{Listener, ServeFault, ServerLimits, SessionRegistry, Slots};
 use rme_table::{CountRoom, Down, Service, Tag};
 use rme_wire::{GivenNames, Names};
 use rme_words::Shape;
+use std::alloc::Global;
 use std::io;
 use std::marker::Brand;
 use std::sync::Wait;
@@ -31,7 +32,6 @@ pub fn run_serve<R: Threads + Wait + Clock + Sync>(
     threads: &R,
     task: ServeTask,
 ) -> Result<u8, CliFault> {
-    let why = why_not_locks(rt.alloc(), &task.locks)?;
     let shape = shape_of(&task);
     let limits = limits_of(&task);
     let ServeTask {
@@ -42,31 +42,68 @@ pub fn run_serve<R: Threads + Wait + Clock + Sync>(
         locks,
         ..
     } = task;
-    let locks = GivenNames::of(locks);
-    if !locks.are_names() {
-        return Err(CliFault::BadArguments(why));
-    }
+    let names = names_of(rt.alloc(), locks)?;
     let shape = shape?;
-    let names = locks.names(rt.alloc())?;
     let keys = match open_keys(rt, keys) {
         Ok(keys) => keys,
         Err(refused) => return Ok(refused.status()),
     };
-    let connections = limits.connections;
+    let ports = ServerPorts {
+        places,
+        http,
+        limits,
+        log,
+    };
+    let (host, listeners) = listen_with(rt, ports, keys, &names)?;
+    let ended = serve_workers(threads, &host, listeners, shape);
+    host.bound.addresses.clear(rt);
+    ended
+}
+
+/// The names of the locks.
+fn names_of(alloc: Global, locks: Vec<String>) -> Result<Names, CliFault> {
+    let why = why_not_locks(alloc, &locks)?;
+    let locks = GivenNames::of(locks);
+    if !locks.are_names() {
+        return Err(CliFault::BadArguments(why));
+    }
+    Ok(locks.names(alloc)?)
+}
+
+/// Where a server listens, its limits, and its log.
+#[derive(Drop)]
+struct ServerPorts {
+    places: ListenAddresses,
+    http: Option<u16>,
+    limits: ServerLimits,
+    log: ServerLog,
+}
+
+/// Listens for clients, with these keys.
+fn listen_with<'a>(
+    rt: &'a HostRuntime,
+    ports: ServerPorts,
+    keys: Option<KeysFile<'a>>,
+    names: &'a Names,
+) -> Result<(ServeContext<'a>, (Listener, Option<Listener>)), CliFault> {
+    let ServerPorts {
+        places,
+        http,
+        limits,
+        log,
+    } = ports;
     let http = HttpPort::listen(rt, http)?;
     let (listeners, bound) = listen(rt, places, limits)?;
     let host = ServeContext {
         rt,
         bound,
         http,
-        connections,
+        connections: limits.connections,
         log,
         keys,
-        names: &names,
+        names,
     };
-    let ended = serve_workers(threads, &host, listeners, shape);
-    host.bound.addresses.clear(rt);
-    ended
+    Ok((host, listeners))
 }
 
 /// The limits of the requested server.

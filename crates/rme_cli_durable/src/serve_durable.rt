@@ -8,16 +8,17 @@ use crate::requested_state::{Growth, ServerConfig, first_lines, growth_of};
 use crate::server_request::{limits_of, setting_of, split_task};
 use crate::serving::{StateSite, serve_logged};
 use rme_cli_http::HttpPort;
-use rme_cli_keys::open_keys;
+use rme_cli_keys::{KeysFile, open_keys};
 use rme_cli_listen::listen;
 use rme_cli_messages::{BadArgument, CliFault, Stderr, escape_controls};
-use rme_cli_options::DurableServeTask;
+use rme_cli_options::{DurableServeTask, ListenAddresses, ServerLog};
 use rme_durable_file::{
     OpenedState, RecoveredFile, StateName, SystemFile, check_replaceable, make_state,
     open_state_file,
 };
+use rme_durable_server::ServerSetting;
 use rme_metrics::LogCounters;
-use rme_session_server::Listener;
+use rme_session_server::{Listener, ServerLimits};
 use std::marker::Brand;
 use std::sync::Wait;
 use std::thread::Threads;
@@ -35,44 +36,100 @@ pub fn run_serve_durable<R: Threads + Wait + Clock + Sync>(
 ) -> Result<u8, CliFault> {
     let limits = limits_of(&task);
     let setting = setting_of(&task);
-    let log = task.log;
-    let http = task.http;
+    let (log, http) = (task.log, task.http);
     let (asked, places, keys) = split_task(task);
     let keys = match open_keys(rt, keys) {
         Ok(keys) => keys,
         Err(refused) => return Ok(refused.status()),
     };
     let name = StateName::new(String::from_str(rt.alloc(), asked.path.as_str())?);
-    let planned = plan_start(rt, &asked, &name)?;
-    let http = HttpPort::listen(rt, http)?;
-    let (listeners, bound) = listen(rt, places, limits)?;
-    let writes = LogCounters::new();
-    let site = StateSite {
+    let start = DurableStart {
         rt,
-        bound,
+        asked: &asked,
+        name: &name,
         http,
-        log,
-        keys,
-        watch: &name,
+        limits,
         setting,
-        writes: &writes,
+        log,
     };
-    let served = match open_or_create(rt, &asked, &name, planned) {
-        Ok(opened) => serve_opened(threads, &site, listeners, opened),
-        Err(fault) => {
-            name.tell(rt, &Stderr::new(rt));
-            Err(fault)
-        }
-    };
-    site.bound.addresses.clear(rt);
-    served
+    start.serve(threads, places, keys)
 }
+
+/// What a server is asked for beside its addresses and keys.
+#[derive(Clone, Copy)]
+struct DurableStart<'a> {
+    rt: &'a HostRuntime,
+    asked: &'a ServerConfig,
+    name: &'a StateName,
+    http: Option<u16>,
+    limits: ServerLimits,
+    setting: ServerSetting,
+    log: ServerLog,
+}
+
+impl DurableStart<'_> {
+    /// Plans the start, listens, and serves.
+    fn serve<R: Threads + Wait + Clock + Sync>(
+        &self,
+        threads: &R,
+        places: ListenAddresses,
+        keys: Option<KeysFile<'_>>,
+    ) -> Result<u8, CliFault> {
+        let planned = plan_start(self.rt, self.asked, self.name)?;
+        let writes = LogCounters::new();
+        let (site, listeners) = self.listen(places, keys, &writes)?;
+        let served = self.serve_planned(threads, &site, listeners, planned);
+        site.bound.addresses.clear(self.rt);
+        served
+    }
+
+    /// Listens for clients, with these keys.
+    fn listen<'f>(
+        &'f self,
+        places: ListenAddresses,
+        keys: Option<KeysFile<'f>>,
+        writes: &'f LogCounters,
+    ) -> Result<(StateSite<'f, StateName>, Listeners), CliFault> {
+        let http = HttpPort::listen(self.rt, self.http)?;
+        let (listeners, bound) = listen(self.rt, places, self.limits)?;
+        let site = StateSite {
+            rt: self.rt,
+            bound,
+            http,
+            log: self.log,
+            keys,
+            watch: self.name,
+            setting: self.setting,
+            writes,
+        };
+        Ok((site, listeners))
+    }
+
+    /// Opens or creates the file, and serves its state.
+    fn serve_planned<R: Threads + Wait + Clock + Sync>(
+        &self,
+        threads: &R,
+        site: &StateSite<'_, StateName>,
+        listeners: Listeners,
+        planned: StartPlan<'_>,
+    ) -> Result<u8, CliFault> {
+        match open_or_create(site.rt, self.asked, site.watch, planned) {
+            Ok(opened) => serve_opened(threads, site, listeners, opened),
+            Err(fault) => {
+                self.name.tell(self.rt, &Stderr::new(self.rt));
+                Err(fault)
+            }
+        }
+    }
+}
+
+type Listeners = (Listener, Option<Listener>);
 
 /// Serves a state whose file was opened.
 fn serve_opened<'a, R: Threads + Wait + Clock + Sync>(
     threads: &R,
     site: &StateSite<'a, StateName>,
-    listeners: (Listener, Option<Listener>),
+    listeners: Listeners,
     opened: OpenedState<'a, SystemFile<'a>>,
 ) -> Result<u8, CliFault>
     requires works { opened.file.works ≡ true }

@@ -33,23 +33,33 @@ pub(crate) fn push_words(
     if form == OutputFormat::Check {
         return push_verdict(out, &read);
     }
-    let mapped = match read {
-        Ok(mapped) => mapped,
+    match read {
+        Ok(mapped) => push_mapped(out, rt, path, &mapped, form)?,
         Err(why) => return Err(unread(rt, path, why)?),
-    };
+    }
+    Ok(0)
+}
+
+/// Appends the contents of a file of words that was read.
+fn push_mapped(
+    out: &mut String,
+    rt: &HostRuntime,
+    path: &str,
+    mapped: &ProcessFile,
+    form: OutputFormat,
+) -> Result<(), CliFault> {
     let file = file_at(rt, path)?;
     let living = living_workers(rt, file, mapped.shape().workers())?;
     if form == OutputFormat::Json {
-        push_json(out, &mapped, living.as_slice())?;
+        push_json(out, mapped, living.as_slice())?;
         out.push_str("\n")?;
-        return Ok(0);
+        return Ok(());
     }
-    let goes_on = push_state(out, rt, &mapped)?;
+    let goes_on = push_state(out, rt, mapped)?;
     let users = Users {
         living,
         holders: holders_of(rt, file)?,
     };
-    let rows = worker_rows(rt.alloc(), &mapped, &users)?;
     let view = WorkerToShow {
         names: mapped.names(),
         height: mapped.shape().height(),
@@ -57,8 +67,8 @@ pub(crate) fn push_words(
         goes_on,
         all: form == OutputFormat::AllTables,
     };
-    push_tables(out, rt.alloc(), &mapped, &view, rows.as_slice())?;
-    Ok(0)
+    push_tables(out, rt.alloc(), mapped, &view, &users)?;
+    Ok(())
 }
 
 /// Appends the tables of the locks and of the workers, and what is left to finish.
@@ -67,12 +77,13 @@ fn push_tables(
     alloc: Global,
     mapped: &ProcessFile,
     view: &WorkerToShow<'_>,
-    rows: &[WorkerRow],
+    users: &Users,
 ) -> Result<(), AllocError> {
     let locks = lock_rows(alloc, mapped)?;
     push_lock_table(out, alloc, view.names, locks.as_slice())?;
     out.push_str("\n")?;
-    push_workers(out, alloc, view, rows)
+    let rows = worker_rows(alloc, mapped, users)?;
+    push_workers(out, alloc, view, rows.as_slice())
 }
 
 /// The processes of a file.

@@ -72,28 +72,32 @@ pub enum SeenAnswer {
 /// Reads the answer to a request. `None` if the line is no answer.
 pub fn read_answer(alloc: Global, request: &SimulatedRequest, line: &[u8]) -> Option<SeenAnswer> {
     let value = Value::from_slice(alloc, line).ok()?;
+    read_value(alloc, request, &value)
+}
+
+fn read_value(alloc: Global, request: &SimulatedRequest, value: &Value) -> Option<SeenAnswer> {
     if let Some(code) = value.get("code") {
-        return Some(SeenAnswer::Refused(code.as_u64()?, whole(&value, "expected")));
+        return Some(SeenAnswer::Refused(code.as_u64()?, whole(value, "expected")));
     }
     if value.get("ok")?.as_str()? != request.word() {
         return None;
     }
     match request {
-        SimulatedRequest::Attach(_) | SimulatedRequest::AttachAny { .. } => read_attached(&value),
+        SimulatedRequest::Attach(_) | SimulatedRequest::AttachAny { .. } => read_attached(value),
         SimulatedRequest::Submit(_) | SimulatedRequest::Resume | SimulatedRequest::Commit =>
-            read_outcome(&value),
-        SimulatedRequest::Withdraw => read_withdrew(&value),
+            read_outcome(value),
+        SimulatedRequest::Withdraw => read_withdrew(value),
         SimulatedRequest::Last => Some(SeenAnswer::Last(read_if_any(value.get("last")?)?)),
-        SimulatedRequest::Pending => Some(SeenAnswer::Pending(stance_of(&value)?)),
+        SimulatedRequest::Pending => Some(SeenAnswer::Pending(stance_of(value)?)),
         SimulatedRequest::CrashAfter(_) => Some(SeenAnswer::Planned),
         SimulatedRequest::Detach => Some(SeenAnswer::Detached),
         SimulatedRequest::Ping => Some(SeenAnswer::Pong),
         SimulatedRequest::Owner(_) => Some(SeenAnswer::Owner(read_owner(value.get("owner")?)?)),
         SimulatedRequest::Cells(_) => Some(SeenAnswer::Cells(
-            read_cells(alloc, &value)?,
+            read_cells(alloc, value)?,
             value.get("settled")?.as_bool()?,
         )),
-        SimulatedRequest::Status => read_status(alloc, &value),
+        SimulatedRequest::Status => read_status(alloc, value),
         SimulatedRequest::BadLine => None,
     }
 }
@@ -192,15 +196,25 @@ fn read_cells(alloc: Global, value: &Value) -> Option<Vec<u64>> {
 }
 
 fn read_status(alloc: Global, value: &Value) -> Option<SeenAnswer> {
+    let locks = read_lock_lines(alloc, value.get("locks")?)?;
+    let workers = read_worker_lines(alloc, value.get("workers")?)?;
+    Some(SeenAnswer::Status(locks, workers))
+}
+
+fn read_lock_lines(alloc: Global, value: &Value) -> Option<Vec<LockLine>> {
     let mut locks = Vec::new(alloc);
-    for lock in value.get("locks")?.as_array()? {
+    for lock in value.as_array()? {
         locks.push(read_lock_line(alloc, lock)?).ok()?;
     }
+    Some(locks)
+}
+
+fn read_worker_lines(alloc: Global, value: &Value) -> Option<Vec<WorkerLine>> {
     let mut workers = Vec::new(alloc);
-    for worker in value.get("workers")?.as_array()? {
+    for worker in value.as_array()? {
         workers.push(read_worker_line(worker)?).ok()?;
     }
-    Some(SeenAnswer::Status(locks, workers))
+    Some(workers)
 }
 
 fn read_lock_line(alloc: Global, value: &Value) -> Option<LockLine> {

@@ -150,25 +150,26 @@ fn other_jobs(rt: HostRuntime) -> Result<(), Fail> {
 #[test]
 fn workers_of_a_world(rt: HostRuntime) -> Result<(), Fail> {
     let mut world = World::new(rt.alloc(), Shape::new(2, 1, 1, 10)?)?;
-    assert!(rt; has_asked(&mut world, 0)? && has_asked(&mut world, 1)?);
-    walk(&mut world, 0, 8)?;
-    walk(&mut world, 1, 8)?;
+    begin_jobs(&mut world)?;
     assert!(rt; world.would_block(1));
-    assert!(rt; is_blocked(&rt, &world)?);
+    check_waiter(&rt, &world)?;
     world.crash(1)?;
-    assert!(rt; is_blocked(&rt, &world)?);
+    check_waiter(&rt, &world)?;
     world.crash(0)?;
-    assert!(rt; is_blocked(&rt, &world)?);
-    Ok(())
+    check_waiter(&rt, &world)
 }
 
-/// Submits a job of lock 0, the first of this worker.
-fn has_asked(world: &mut World, worker: u32) -> Result<bool, Refusal> {
-    let job = Job {
-        lock: 0,
-        script: Script::of(&[Op::Add(0, 5)]),
-    };
-    Ok(world.submit(worker, job)? == 1)
+/// Each worker is handed a job of lock 0, and makes 8 own steps.
+fn begin_jobs(world: &mut World) -> Result<(), Refusal> {
+    for worker in 0..world.shape().workers {
+        let job = Job {
+            lock: 0,
+            script: Script::of(&[Op::Add(0, 5)]),
+        };
+        world.submit(worker, job)?;
+        walk(world, worker, 8)?;
+    }
+    Ok(())
 }
 
 /// Makes own steps of a worker.
@@ -179,11 +180,13 @@ fn walk(world: &mut World, worker: u32, steps: u32) -> Result<(), Refusal> {
     Ok(())
 }
 
-/// Whether worker 1 waits for worker 0, and worker 0 for nobody.
-fn is_blocked(rt: &impl Abort, world: &World) -> Result<bool, Fail> {
+/// Worker 1 waits for worker 0, and worker 0 for nobody.
+fn check_waiter(rt: &impl Abort, world: &World) -> Result<(), Fail> {
     let words = world_words(world)?;
     assert!(rt; 1 < words.shape().workers);
-    Ok(waits_for(&words, 0).is_none() && waits_for(&words, 1) == Some(0))
+    assert!(rt; waits_for(&words, 0).is_none());
+    assert!(rt; waits_for(&words, 1) == Some(0));
+    Ok(())
 }
 
 /// The laws are functions that do nothing.
