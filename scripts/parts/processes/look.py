@@ -226,7 +226,7 @@ def try_damage(folder):
 def try_beside(folder):
     """Beside processes that work, a look ends well; and if they are dead, it says what the C library looks up."""
     rme, path = shared(), os.path.join(folder, "words")
-    rme.create(path, ["bank", "shop"], workers=WORKERS, cells=CELLS)
+    rme.create(path, ["bank", "shop"], workers=WORKERS, cells=CELLS, jobs=1_000_000)
     busy = "[worker.run(('bank', 'shop')[n % 2], [('add', n % 2, 1)]) for n in range(1_000_000)]"
     words = [sys.executable, "-c", HOLDER, path]
     processes = [subprocess.Popen([*words, str(number), busy], stdout=subprocess.DEVNULL) for number in range(WORKERS)]
