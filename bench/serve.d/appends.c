@@ -1,5 +1,7 @@
-/* appends FOLDER THREADS BYTES MILLISECONDS: prints the appends a second of threads that each append to a file of their
- * own, again and again, and wait until the disk has it. No server that syncs each of so many files answers more. */
+/* appends FOLDER THREADS BYTES MILLISECONDS: prints the appends a second of threads that each append to a log of their
+ * own, again and again, and wait until the disk has it. Zeros stand behind each log, so that the file does not grow at each
+ * append. No server that syncs each of so many files answers more. */
+#define _XOPEN_SOURCE 700
 #include <fcntl.h>
 #include <pthread.h>
 #include <stdatomic.h>
@@ -10,7 +12,7 @@
 #include <time.h>
 #include <unistd.h>
 
-enum { MOST_THREADS = 64, ROOM = 4096 };
+enum { MOST_THREADS = 64, ROOM = 4096, AHEAD = 1 << 20 };
 
 /* Ends the program with a text on the standard error and status 1. */
 __attribute__((noreturn)) static void fail(const char *what) {
@@ -31,15 +33,27 @@ struct thread {
 
 static void *append(void *about) {
     struct thread *own = about;
+    static const char zeros[AHEAD];
     char path[ROOM], text[ROOM];
+    off_t at = 0, end = 0;
     snprintf(path, sizeof path, "%s/appends-%u", folder, own->number);
-    int file = open(path, O_CREAT | O_TRUNC | O_WRONLY | O_APPEND, 0600);
+    int file = open(path, O_CREAT | O_TRUNC | O_WRONLY, 0600);
     if (file < 0) {
         fail(path);
     }
     memset(text, 'x', sizeof text);
     while (!is_over) {
-        if (write(file, text, length) != (ssize_t)length || fdatasync(file) != 0) {
+        if (pwrite(file, text, length, at) != (ssize_t)length) {
+            fail(path);
+        }
+        at += (off_t)length;
+        if (at > end) {
+            if (pwrite(file, zeros, AHEAD, at) != AHEAD) {
+                fail(path);
+            }
+            end = at + AHEAD;
+        }
+        if (fdatasync(file) != 0) {
             fail(path);
         }
         ++own->appends;

@@ -61,6 +61,11 @@ def read(path):
         return file.read()
 
 
+def log_of(path):
+    """The bytes of a file without the room at its end, which a server makes that waits for the disk."""
+    return sums.without_room(read(path))
+
+
 def written(path, held):
     with open(path, "wb") as file:
         file.write(held)

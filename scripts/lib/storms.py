@@ -14,7 +14,7 @@ from lib.kept import UNSEALED, answers_to, epoch_of, faults_of, kill, look, look
 from lib.orders import without_seconds
 from lib.programs import TOP, built
 from lib.servers import HOST, Server, line_of
-from lib.sums import whole
+from lib.sums import whole, without_room
 
 sys.path.insert(0, os.path.join(TOP, "clients", "python"))
 from rme_client import Done, Observer, Overtaken, Worker  # noqa: E402
@@ -147,7 +147,7 @@ class Storm:
         if not is_renewed and not held.startswith(self.kept):
             self.wrong.append("a line that was kept is not there any more")
         self.kept = whole(held)
-        self.torn += len(self.kept) < len(held)
+        self.torn += len(self.kept) < len(without_room(held))
         if self.renews:
             self.look_at_numbers(answered)
         if self.numbers.random() < 0.5:

@@ -84,8 +84,8 @@ def write_of(lines, sum_line, last, end):
 
 
 class Start(NamedTuple):
-    """What a start does with a file: it takes the good writes in order, and cuts off the bytes after them, or refuses
-    the file if something that was durable has changed up to this line."""
+    """What a start does with a file: it takes the good writes in order, and cuts off what is after them, so many bytes
+    apart from room; or it refuses the file if something that was durable has changed up to this line."""
 
     writes: tuple
     behind: int
@@ -111,7 +111,12 @@ def start_of(held):
     behind = held[good[-1].end :] if good else held
     is_refused = count == 0 or greatest_kept(behind) > count
     line = rest[0].last if rest else last_line(held)
-    return Start(good, len(behind), line if is_refused else None)
+    return Start(good, len(without_room(behind)), line if is_refused else None)
+
+
+def without_room(held):
+    """Bytes without the zeros at their end, which are room for further writes."""
+    return held.rstrip(b"\0")
 
 
 def greatest_kept(lines):

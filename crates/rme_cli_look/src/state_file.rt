@@ -162,11 +162,7 @@ fn push_refused_state(
 }
 
 /// Appends that a start accepts the file, up to the end of the log, and answers the status.
-fn push_accepted(
-    out: &mut String,
-    bytes: &[u8],
-    state: &StateOfBytes,
-) -> Result<u8, CliFault> {
+fn push_accepted(out: &mut String, bytes: &[u8], state: &StateOfBytes) -> Result<u8, CliFault> {
     let torn = state.torn;
     if torn == 0 {
         out.push_str("yes\n")?;

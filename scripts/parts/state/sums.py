@@ -17,8 +17,8 @@ import sys
 
 from lib.checks import check, main_in_folders, note, same
 from lib.damage import is_verdict
-from lib.kept import bad_state, end_of, kill, look, looked, read, serve, state_words, status_in, status_of, whole_lines
-from lib.kept import without_count, written
+from lib.kept import bad_state, end_of, faults_of, kill, log_of, look, looked, read, serve, state_words, status_in, status_of
+from lib.kept import whole_lines, without_count, written
 from lib.orders import COMMIT, DETACH, LAST, ONE, STATUS, attach, job, text, without_seconds
 from lib.programs import ends_with, run
 from lib.servers import line_of
@@ -110,9 +110,9 @@ def ordered(sessions, path):
     """Has two sessions say the orders, and answers what is wrong: each adds one write, or none."""
     wrong = []
     for number, order, writes in ORDERS:
-        before = read(path)
+        before = log_of(path)
         answer = sessions[number].ask(order)
-        after = read(path)
+        after = log_of(path)
         more = len(writes_of(after)) - len(writes_of(before))
         if b'"ok"' not in answer or not after.startswith(before) or more != writes or whole(after) != after:
             wrong.append((order, answer, after[len(before) :]))
@@ -126,7 +126,7 @@ def made(path, sync):
     wrong = ordered(sessions, path)
     kill(server)
     same(f"--sync {sync}: each order adds one write, or none", wrong, [])
-    return read(path)
+    return log_of(path)
 
 
 def as_written(held, lives):
@@ -156,13 +156,13 @@ def try_written(folder):
         lives = [(first, 0)]
         same(f"--sync {first}: numbers, and sums", held, as_written(held, lives))
         for ends in (LAST, DETACH, LAST):  # the last one finds no worker up
-            lives.append((second, len(writes_of(read(path)))))
+            lives.append((second, len(writes_of(log_of(path)))))
             server = serve(path, sync=second)
             session = server.session()
             number = session.attach(0)["number"]
             session.ask_all(*(job("submit", "bank", number + more, *ONE) for more in (1, 2)), ends)
             kill(server)
-        now = read(path)
+        now = log_of(path)
         check("it is longer", now.startswith(held) and len(writes_of(now)) == len(writes_of(held)) + 12, now)
         same(f"--sync {first}, and then --sync {second}", now, as_written(now, lives))
         same("all of it is taken", ends_with(look(path, "--check")), (0, b"yes\n", b""))
@@ -185,6 +185,30 @@ def try_together(folder):
         told = [worker["number"] for worker in looked(path)["workers"]]
         check("what was answered is there", min(told) >= 20 == max(answered), told)
         note(f"--sync {sync}: {sum(told)} jobs in {len(writes_of(front))} writes")
+
+
+def try_room(folder):
+    """A server that waits for the disk has zeros behind its log, room for further writes, at most as long as the log, or 16 KiB. A
+    start counts none of them, and cuts them off."""
+    for sync in ("always", "never"):
+        path, wrong = os.path.join(folder, sync), []
+        server = serve(path, "bank", sync=sync, workers=2)
+        session = server.session()
+        session.attach(0)
+        for number in range(1, 201):
+            session.ask(job("submit", "bank", number, *ONE))
+            held, log = read(path), log_of(path)
+            if whole(held) != log or len(held) > len(log) + max(len(log), 16 << 10) or (len(held) > len(log)) != (sync == "always"):
+                wrong.append((number, len(log), len(held)))
+        same(f"--sync {sync}: room behind the log", wrong, [])
+        kill(server)
+        log = log_of(path)
+        same("all of it is taken", ends_with(look(path, "--check")), (0, b"yes\n", b""))
+        same("it is a run", faults_of(read(path)), [])
+        server = serve(path, sync="never")
+        held = read(path)
+        check("a start cuts the room off", held.startswith(log) and whole(held) == held, held[len(log) :])
+        check("and does not speak of it", b"never known" not in kill(server)[2])
 
 
 # ---- what a start makes of a file
@@ -249,7 +273,7 @@ def start_cut(path, held):
     same(f"a start after {len(writes_of(front))} writes, {cut} bytes cut off", told, wanted)
     check("it says so", (note_of_cut in said) == bool(cut), said)
     check("jobs go on", went_on.get("ok") in ("submit", "resume"), went_on)
-    now = read(path)
+    now = log_of(path)
     check("behind what is left", now.startswith(front) and whole(now) == now, now[len(front) :])
     same("and all of it is taken", ends_with(look(path, "--check")), (0, b"yes\n", b""))
 
@@ -378,7 +402,7 @@ def unsynced(folder):
     number = session.attach(0)["number"]
     session.ask_all(*(job("submit", "bank", number + more, ["add", 0, more]) for more in range(1, 24)))
     kill(server)
-    now = read(path)
+    now = log_of(path)
     yield "many writes", now, len(held)
     writes = writes_of(now)
     count = len(writes_of(held))
@@ -418,7 +442,7 @@ def try_first_version(folder):
         number = session.attach(0)["number"]
         session.ask_all(*(job("submit", "bank", number + more, *ONE) for more in range(1, 4)))
         said = kill(server)[2]
-        now = read(path)
+        now = log_of(path)
         check("it goes on without sums", now.startswith(held) and MARK not in now and not is_sealed(now), now[len(held) :])
         check("nothing is said of its torn line", b"never known" not in said, said)
         same("all of it is taken", ends_with(look(path, "--check")), (0, b"yes\n", b""))
@@ -428,7 +452,7 @@ def try_first_version(folder):
             stood = session.attach(0)["number"]
             session.ask_all(*(job("submit", "bank", stood + more, *ONE) for more in range(1, 5)))
             kill(server)
-            then = read(path)
+            then = log_of(path)
             check(f"{what} puts a file with sums in its place", is_sealed(then) and whole(then) == then, then)
             same(f"{what}: numbers and sums", then, as_written(then, [(sync, 0)]))
             same(f"{what}: all jobs are there", looked(path)["workers"][0]["number"], stood + 4)
@@ -468,4 +492,4 @@ def part():
     note(f"seed {SEED}")
     of_model = try_model, try_model_changes
     changes = try_changes, try_cuts, try_moved, try_forms, try_sectors
-    main_in_folders(*of_model, try_written, try_together, *changes, try_first_version, try_mixed, try_replayed, minutes=5)
+    main_in_folders(*of_model, try_written, try_together, try_room, *changes, try_first_version, try_mixed, try_replayed, minutes=5)
