@@ -36,7 +36,7 @@ SECONDS = {
     "rme_service_steps": 60, "rme_service_phases": 100, "rme_table": 135, "rme_supervisor": 140,
     "rme_session_threads": 140, "rme_session_loop": 110, "rme_session_server": 80, "rme_server": 65, "rme_line_engine": 88,
     "rme_draw_history": 70, "rme_cli_lines": 80, "rme_cli_run": 49, "rme_session_world": 95, "rme_durable_log": 65,
-    "rme_durable_format": 160, "rme_durable_epochs": 120, "rme_durable_checkpoint": 110, "rme_durable_recovery": 60, "rme_durable_lookups": 90,
+    "rme_durable_format": 160, "rme_durable_epochs": 145, "rme_durable_checkpoint": 110, "rme_durable_lookups": 90,
     "rme_durable_server": 215,
     "rme_process_file": 90, "rme_durable_file": 240, "rme_cli_listen": 70, "rme_cli_look": 260, "rme_cli_durable": 280, "rme_cli_state": 200,
     "rme_cli_commands": 180, "rme_cli": 300,

@@ -9,7 +9,7 @@ use crate::rows::{
 use crate::table::text_of;
 use rme_cli_messages::CliFault;
 use rme_cli_options::OutputFormat;
-use rme_durable_epochs::Sections;
+use rme_durable_epochs::{RecoveredState, Sections, recover};
 use rme_durable_file::{
     ContentsError, FileContents, bad_log_fault, contents_fault, line_in_file, write_end,
 };
@@ -18,7 +18,6 @@ use rme_durable_lookups::{
     LockStatus, StatusNotes, StatusSource, WorkerStatus, clients_of, lock_status, push_status,
     worker_status,
 };
-use rme_durable_recovery::{RecoveredState, recover};
 use rme_tree::held;
 use rme_waiting::world_words;
 use rme_words::{Bank, NoMemory};

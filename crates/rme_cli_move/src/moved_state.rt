@@ -2,11 +2,11 @@
 
 use crate::move_fault::MoveFault;
 use rme_cli_messages::{CliFault, escape_controls};
+use rme_durable_epochs::{recover, version_of};
 use rme_durable_file::{
     ContentsError, FileContents, bad_log_fault, contents_fault, line_in_file, write_end,
 };
 use rme_durable_format::{BadLog, NoProgress};
-use rme_durable_recovery::{recover, version_of};
 use rme_durable_writes::{SealError, WriteSealer};
 
 /// The state that is moved.

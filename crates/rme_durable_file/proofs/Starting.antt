@@ -3,7 +3,7 @@ use Rattle.std.proofs.Common.{◌≡◌, ℕ, ◌+◌, ◌-◌, ◌^◌, List, [
 use Rattle.rme_durable_format.specs.BatchCommands.{crash_commands_from}
 use Rattle.rme_durable_format.specs.CommandLines.{AppendsCommands}
 use Rattle.rme_durable_epochs.specs.EpochStates.{EpochState}
-use Rattle.rme_durable_recovery.specs.declared.recovery.RecoveredState.{RecoveredState}
+use Rattle.rme_durable_epochs.specs.declared.recovery.RecoveredState.{RecoveredState}
 use Rattle.rme_durable_file.specs.DiskFiles.{AppendsToFile, CutsFile}
 use Rattle.rme_durable_file.specs.Starts.{BeginsFrom, BeginsKnownServer, ReadsKnownState}
 

@@ -6,8 +6,8 @@ use Rattle.rme_durable_format.specs.CommandLines.{AppendsCommands}
 use Rattle.rme_durable_format.specs.WholeLines.{AreWholeLinesOf}
 use Rattle.rme_durable_format.specs.declared.recovery.RecoveredLog.{RecoveredLog}
 use Rattle.rme_durable_epochs.specs.EpochStates.{EpochState}
-use Rattle.rme_durable_recovery.specs.RecoveredStates.{AreState}
-use Rattle.rme_durable_recovery.specs.declared.recovery.RecoveredState.{RecoveredState}
+use Rattle.rme_durable_epochs.specs.RecoveredStates.{AreState}
+use Rattle.rme_durable_epochs.specs.declared.recovery.RecoveredState.{RecoveredState}
 
 -- A state was read from bytes: from all their whole lines, which have this length.
 pub record ReadsState (bytes : List ℕ) (whole : ℕ) (found : RecoveredState) : Type 0 where

@@ -2,7 +2,7 @@
 
 use crate::faults::changed_fault;
 use rme_cli_messages::CliFault;
-use rme_durable_recovery::version_of;
+use rme_durable_epochs::version_of;
 use rme_durable_writes::{FoundWrites, ReadError, WriteSealer, read_writes};
 use std::alloc::{AllocError, Global};
 

@@ -1,6 +1,6 @@
 //! The log file of a durable server on the disk: made, locked for one server, read, appended to, and replaced.
 //!
-//! The crate stands on rme_durable_recovery, which reads the file's bytes, on rme_durable_log, whose `LogStore` it
+//! The crate stands on rme_durable_epochs, which reads the file's bytes, on rme_durable_log, whose `LogStore` it
 //! implements, and on rme_cli_messages for its faults. The store and the start are proved over any `StateStorage`; only
 //! `SystemFile`, the file of the system, is trusted, and rme_replica_state has a storage in a replicated log. The crates
 //! above use `open_state_file`, `make_state`, `RecoveredFile::read`, `RecoveredFile::open` and `OpenedState::grow`.

@@ -6,8 +6,8 @@ ghost use Rattle.rme_durable_file.specs.BadLogs.{IsBadLogFault};
 ghost use Rattle.rme_durable_file.specs.Starts.{ReadsState};
 
 use rme_cli_messages::{CliFault, escape_controls};
+use rme_durable_epochs::{RecoveredState, recover, version_of};
 use rme_durable_format::{BadLog, RecoveryProgress, whole_lines};
-use rme_durable_recovery::{RecoveredState, recover, version_of};
 use rme_process_file::is_process_file;
 use std::time::{Duration, Instant};
 

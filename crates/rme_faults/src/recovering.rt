@@ -1,8 +1,8 @@
 //! Recovery accepts the file at each moment.
 
 use crate::run::Run;
+use rme_durable_epochs::recover;
 use rme_durable_format::{NoProgress, whole_lines};
-use rme_durable_recovery::recover;
 use rme_faults_model::{Found, is_or};
 
 /// Checks that recovery accepts the whole lines that the file has now.

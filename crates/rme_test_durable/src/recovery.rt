@@ -1,10 +1,10 @@
 //! Which bytes are states, and how they are cut into lines.
 
 ghost use Rattle.std.specs.Prelude.{IfSome};
-ghost use Rattle.rme_durable_recovery.specs.RecoveredStates.{IsWhyNoState};
+ghost use Rattle.rme_durable_epochs.specs.RecoveredStates.{IsWhyNoState};
 
+use rme_durable_epochs::recover;
 use rme_durable_format::{BadLog, NoProgress, first_two_lines, recover_log, whole_lines};
-use rme_durable_recovery::recover;
 use std::alloc::Global;
 use std::test::*;
 

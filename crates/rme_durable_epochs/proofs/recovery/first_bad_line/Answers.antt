@@ -1,8 +1,8 @@
 use Rattle.std.proofs.Common.{subst, sym}
-use Rattle.rme_durable_recovery.specs.RecoveredStates.{IsWhyNoState}
-use Rattle.rme_durable_recovery.proofs.Judging.{bad_early, judged_bad, judged_good}
-use Rattle.rme_durable_recovery.proofs.recovery.first_bad_line.Goals as goal
-use Rattle.rme_durable_recovery.proofs.recovery.first_bad_line.Goals.{in-Ok, in-Err}
+use Rattle.rme_durable_epochs.specs.RecoveredStates.{IsWhyNoState}
+use Rattle.rme_durable_epochs.proofs.Judging.{bad_early, judged_bad, judged_good}
+use Rattle.rme_durable_epochs.proofs.recovery.first_bad_line.Goals as goal
+use Rattle.rme_durable_epochs.proofs.recovery.first_bad_line.Goals.{in-Ok, in-Err}
 
 pub returns-then-line-le2 : goal.returns-then-line-le2
 returns-then-line-le2 g c = bad_early c.args.bytes.now c.args.line c.requires c.if-line-le2.true

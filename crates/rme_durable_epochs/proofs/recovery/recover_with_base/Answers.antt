@@ -1,7 +1,7 @@
 use Rattle.std.proofs.Common.{inr, refl}
 use Rattle.std.proofs.lemmas.Bool.{false≢true}
 use Rattle.rme_durable_format.specs.Headers.{header_values}
-use Rattle.rme_durable_recovery.proofs.recovery.recover_with_base.Goals as goal
+use Rattle.rme_durable_epochs.proofs.recovery.recover_with_base.Goals as goal
 
 pub returns-in-None-clause-err : goal.returns-in-None-clause-err
 returns-in-None-clause-err g c =

@@ -20,8 +20,8 @@ use Rattle.rme_durable_format.specs.declared.fault.BadLog.TheVariants as bad
 use Rattle.rme_durable_format.proofs.OnePast.{same_past}
 use Rattle.rme_durable_format.proofs.Opened.{first_opens, opens_same, opens_unrejected}
 use Rattle.rme_durable_epochs.specs.HeaderBases.{LeavesRoom}
-use Rattle.rme_durable_recovery.specs.RecoveredStates.{AreState, FitsNextLine, FitsWorld, HasFullHeader, HasGoodHeader, IsBadState, IsFirstBadLine, IsWhyNoState, OpensWorld}
-use Rattle.rme_durable_recovery.specs.declared.recovery.RecoveredState.{RecoveredState}
+use Rattle.rme_durable_epochs.specs.RecoveredStates.{AreState, FitsNextLine, FitsWorld, HasFullHeader, HasGoodHeader, IsBadState, IsFirstBadLine, IsWhyNoState, OpensWorld}
+use Rattle.rme_durable_epochs.specs.declared.recovery.RecoveredState.{RecoveredState}
 
 -- ---- the world that line 2 opens
 

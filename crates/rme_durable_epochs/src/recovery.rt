@@ -1,9 +1,9 @@
 //! Recovery: the world that the bytes of a file lead to, and the base of its epoch.
 
 ghost use Rattle.std.specs.Prelude.{IfErr, IfOk};
-ghost use Rattle.rme_durable_recovery.specs.RecoveredStates.{AreState, IsBadState, IsWhyNoState};
+ghost use Rattle.rme_durable_epochs.specs.RecoveredStates.{AreState, IsBadState, IsWhyNoState};
 
-use rme_durable_epochs::Base;
+use crate::epoch_base::Base;
 use rme_durable_format::{BadLog, RecoveredLog, RecoveryProgress, first_two_lines, recover_log};
 use rme_wire::{ValueReader, ValueStorage};
 use rme_words::NoMemory;

@@ -11,7 +11,7 @@ use Rattle.rme_durable_format.specs.Recovery.{AcceptsLine, BeginsWithHeader, IsD
 use Rattle.rme_durable_format.specs.declared.fault.BadLog.{BadLog}
 use Rattle.rme_durable_format.specs.declared.fault.BadLog.TheVariants as bad
 use Rattle.rme_durable_epochs.specs.HeaderBases.{IsHeaderBase, LeavesRoom}
-use Rattle.rme_durable_recovery.specs.declared.recovery.RecoveredState.{RecoveredState}
+use Rattle.rme_durable_epochs.specs.declared.recovery.RecoveredState.{RecoveredState}
 
 -- The bytes are the state's: all lines after the first lead to its world, and from the lives of the header to its lives;
 -- the first is the header of that world, and leaves room for one more epoch; and the base is the header's.

@@ -1,2 +1,0 @@
--- The first bad line of a file.
-pub mod Judging

@@ -1,2 +1,0 @@
--- The state of a file, and its first bad line.
-pub mod RecoveredStates
