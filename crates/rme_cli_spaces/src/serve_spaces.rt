@@ -21,8 +21,9 @@ use rme_session_server::{
     AcceptedConnection, Acceptor, ConnectionHandler, Listener, ServerLimits, SharedObserver,
     serve_connections,
 };
-use rme_session_spaces::{NoSpace, SpacedBackend, SpacedStand};
-use rme_space_registry::{SpaceEntry, SpaceRegistry, SpaceTask};
+use rme_session_spaces::{
+    NoSpace, SpaceEntry, SpaceRegistry, SpaceTask, SpacedBackend, SpacedStand,
+};
 use rme_wire::Names;
 use rme_words::Refusal;
 use std::alloc::Global;

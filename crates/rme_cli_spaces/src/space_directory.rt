@@ -7,9 +7,8 @@ use rme_cli_listen::StderrObserver;
 use rme_metrics::{LogCounters, ServerCounters};
 use rme_session_keys::Access;
 use rme_session_server::{AcceptedConnection, SharedObserver};
-use rme_session_spaces::{SpaceDirectory, SpacePage};
+use rme_session_spaces::{SpaceDirectory, SpacePage, SpaceRegistry, SpaceVisit};
 use rme_space_orders::{NewSpace, SpaceName};
-use rme_space_registry::{SpaceRegistry, SpaceVisit};
 use rme_words::Refusal;
 use std::sync::Wait;
 use std::time::Clock;
@@ -100,7 +99,7 @@ impl<'g> ServedSpaces<'_, 'g> {
 /// files.
 impl<'g> SpaceDirectory for ServedSpaces<'_, 'g> {
     ghost use Rattle.std.specs.Prelude.{◌≡◌, ⊤, IfOk};
-    ghost use Rattle.rme_space_registry.specs.Visits.{visit_name};
+    ghost use Rattle.rme_session_spaces.specs.Visits.{visit_name};
 
     type Visit = DirectoryVisit<'g>;
 

@@ -1,6 +1,6 @@
 //! The registry of open spaces.
 
-use rme_space_registry::SpaceRegistry;
+use rme_session_spaces::SpaceRegistry;
 use std::test::Fail;
 
 #[test]

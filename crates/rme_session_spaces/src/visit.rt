@@ -12,7 +12,7 @@ pub struct SpaceVisit<G> {
 impl<G: Drop> SpaceVisit<G> {
     ghost use Rattle.std.specs.Prelude.{◌≡◌};
     ghost use Rattle.std.specs.Arc.{arc_value};
-    ghost use Rattle.rme_space_registry.specs.Visits.{entry_name, visit_name};
+    ghost use Rattle.rme_session_spaces.specs.Visits.{entry_name, visit_name};
 
     /// Begins a visit, while the registry is locked.
     pub(crate) fn begin(entry: Arc<SpaceEntry<G>>) -> SpaceVisit<G>

@@ -45,7 +45,7 @@ enum Removing<G> {
 
 impl<G: Drop> SpaceRegistry<G> {
     ghost use Rattle.std.specs.Prelude.{◌≡◌, IfOk};
-    ghost use Rattle.rme_space_registry.specs.Visits.{RemovesNamed, visit_name};
+    ghost use Rattle.rme_session_spaces.specs.Visits.{RemovesNamed, visit_name};
 
     /// A registry without spaces.
     pub fn new(alloc: Global) -> SpaceRegistry<G> {
@@ -190,7 +190,7 @@ impl<G: Drop> SpaceRegistry<G> {
 impl<G: Drop> ListedSpaces<G> {
     ghost use Rattle.std.specs.Prelude.{◌≡◌, IfOk, IfSome};
     ghost use Rattle.std.specs.Arc.{arc_value};
-    ghost use Rattle.rme_space_registry.specs.Visits.{entry_name};
+    ghost use Rattle.rme_session_spaces.specs.Visits.{entry_name};
 
     /// The entry of the space of this name, if there is one.
     fn find(&self, name: &SpaceName) -> Option<&Arc<SpaceEntry<G>>>

@@ -1,12 +1,12 @@
 -- THE SPACE OF AN ENTRY AND OF A VISIT, by its name.
 use Rattle.std.specs.Prelude.{◌≡◌, ℕ, List}
 use Rattle.std.specs.Arc.{arc_value}
-use Rattle.rme_space_registry.specs.declared.entry.Arrival.{Arrival}
-use Rattle.rme_space_registry.specs.declared.entry.Arrival.TheVariants.{Guest, Close, Nothing}
-use Rattle.rme_space_registry.specs.declared.entry.SpaceEntry.{SpaceEntry}
-use Rattle.rme_space_registry.specs.declared.registry.Removing.{Removing}
-use Rattle.rme_space_registry.specs.declared.registry.Removing.TheVariants.{Begun, Visited, Closing}
-use Rattle.rme_space_registry.specs.declared.visit.SpaceVisit.{SpaceVisit}
+use Rattle.rme_session_spaces.specs.declared.entry.Arrival.{Arrival}
+use Rattle.rme_session_spaces.specs.declared.entry.Arrival.TheVariants.{Guest, Close, Nothing}
+use Rattle.rme_session_spaces.specs.declared.entry.SpaceEntry.{SpaceEntry}
+use Rattle.rme_session_spaces.specs.declared.registry.Removing.{Removing}
+use Rattle.rme_session_spaces.specs.declared.registry.Removing.TheVariants.{Begun, Visited, Closing}
+use Rattle.rme_session_spaces.specs.declared.visit.SpaceVisit.{SpaceVisit}
 
 abbrev pub entry_name : {G : Type 0} → SpaceEntry G → List ℕ
 entry_name entry = entry.name

@@ -67,7 +67,7 @@ pub enum Arrival<G> {
 impl<G: Drop> SpaceEntry<G> {
     ghost use Rattle.std.specs.Prelude.{◌≡◌, ◌↔◌, IfOk, IsTrue};
     ghost use Rattle.std.specs.Arc.{arc_value};
-    ghost use Rattle.rme_space_registry.specs.Visits.{ComesTo, entry_name};
+    ghost use Rattle.rme_session_spaces.specs.Visits.{ComesTo, entry_name};
 
     /// An entry of a space that is opened.
     pub(crate) fn new(alloc: Global, name: SpaceName) -> SpaceEntry<G>
