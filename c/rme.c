@@ -1,9 +1,8 @@
 /* rme.c: the calls of rme.h over the proved step machine of crates/rme_process_abi.
 
    The crate decides every own step: which operation on which word comes next, and what the worker knows once it has
-   the value. That these are the steps of the algorithm is proved there, and in crates/rme_process_laws what any
-   interleaving of such steps comes to, with crashes and restarts between. What is not proved, and has to be read, is
-   in this folder:
+   the value. That these are the steps of the algorithm is proved there, and in crates/rme_laws what any interleaving of
+   such steps comes to, with crashes and restarts between. What is not proved, and has to be read, is in this folder:
 
    - `make_batch` below does each operation that the crate told, in order, once, as one sequentially consistent
      operation of one 64-bit word of the mapping, and hands on what it found; it ends behind a swap that put nothing, and

@@ -5,7 +5,7 @@
 //! takes these values and answers their outcome. This crate touches no shared word, and C decides nothing.
 //!
 //! Each call is one of `rme_process_core`, for the worker of a handle. The contracts are those of `exports.rt`; the
-//! clause `call` says which events of its worker a call makes, and `rme_process_laws` what calls and operations of many
+//! clause `call` says which events of its worker a call makes, and `rme_laws` what calls and operations of many
 //! processes make together. Begin with `flat.rt` of `rme_process_core`, which has what C reads and writes; then
 //! `exports.rt`.
 #![tactic(auto)]

@@ -1,5 +1,0 @@
-use Rattle.rme_durable_laws.proofs.Lives.{lives_grow}
-use Rattle.rme_durable_laws.proofs.laws.lives_never_fall.Goals as goal
-
-pub returns : goal.returns
-returns c names log old new whole lead = lives_grow names log old new whole lead

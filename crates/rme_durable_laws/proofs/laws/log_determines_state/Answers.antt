@@ -1,5 +1,0 @@
-use Rattle.rme_durable_laws.proofs.Histories.{all_alike}
-use Rattle.rme_durable_laws.proofs.laws.log_determines_state.Goals as goal
-
-pub returns : goal.returns
-returns c names log old again one other alike first second = all_alike names log old again one other alike first second

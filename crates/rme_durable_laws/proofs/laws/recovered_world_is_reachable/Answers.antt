@@ -1,5 +1,0 @@
-use Rattle.rme_durable_laws.proofs.Reaching.{begun_reach}
-use Rattle.rme_durable_laws.proofs.laws.recovered_world_is_reachable.Goals as goal
-
-pub returns : goal.returns
-returns c bytes names found begun recovers crashed = begun_reach bytes names found begun recovers crashed

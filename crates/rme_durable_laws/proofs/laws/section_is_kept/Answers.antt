@@ -1,5 +1,0 @@
-use Rattle.rme_durable_laws.proofs.Sections.{section_stays}
-use Rattle.rme_durable_laws.proofs.laws.section_is_kept.Goals as goal
-
-pub returns : goal.returns
-returns g c start old held now before after next last worker job begins first second inside = section_stays g.J.ServerTag.opening start old held now before after next last worker job begins first second inside

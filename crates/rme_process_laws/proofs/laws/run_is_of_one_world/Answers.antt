@@ -1,5 +1,0 @@
-use Rattle.rme_process_laws.proofs.Runs.{one_world_law}
-use Rattle.rme_process_laws.proofs.laws.run_is_of_one_world.Goals as goal
-
-pub returns : goal.returns
-returns c = one_world_law

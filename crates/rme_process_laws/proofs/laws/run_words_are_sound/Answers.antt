@@ -1,5 +1,0 @@
-use Rattle.rme_process_laws.proofs.Runs.{sound_run_law}
-use Rattle.rme_process_laws.proofs.laws.run_words_are_sound.Goals as goal
-
-pub returns : goal.returns
-returns c = sound_run_law

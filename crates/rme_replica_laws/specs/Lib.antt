@@ -1,2 +1,0 @@
--- All that was ever put to one log, and its laws.
-pub mod Puts
