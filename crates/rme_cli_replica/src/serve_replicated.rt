@@ -150,10 +150,33 @@ impl LeadRequest<'_> {
             Ok(keys) => keys,
             Err(refused) => return Ok(Some(refused.status())),
         };
+        match self.find_in_term(notes, term)? {
+            Some(found) => self.lead_found(threads, notes, keys, found),
+            None => Ok(None),
+        }
+    }
+
+    /// The state in the log; `None` if the log has another term.
+    fn find_in_term<'f>(
+        &self,
+        notes: LeadNotes<'f>,
+        term: Option<u64>,
+    ) -> Result<Option<(FoundState<'f>, Option<Growth>)>, ClusterFault> {
         let found = self.find_state(notes.name, notes.note)?;
         if term.is_some_and(|term| term != notes.note.term()) {
             return Ok(None);
         }
+        Ok(Some(found))
+    }
+
+    /// Listens, claims the log of a state that was read, and serves it.
+    fn lead_found<'f, R: Threads + Wait + Clock + Sync>(
+        &'f self,
+        threads: &R,
+        notes: LeadNotes<'f>,
+        keys: Option<KeysFile<'f>>,
+        found: (FoundState<'f>, Option<Growth>),
+    ) -> Result<Option<u8>, ClusterFault> {
         let watch = LeadWatch {
             place: self.place,
             note: notes.note,

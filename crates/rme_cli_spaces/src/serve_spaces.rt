@@ -9,7 +9,7 @@ use crate::space_server::{SPACE_STACK, SpacesContext, run_space};
 use crate::spaces_folder::SpacesFolder;
 use rme_cli_http::{HTTP_STACK, HttpPort};
 use rme_cli_keys::{KeysFile, open_keys};
-use rme_cli_listen::{StderrObserver, listen};
+use rme_cli_listen::{BoundServer, StderrObserver, listen};
 use rme_cli_messages::CliFault;
 use rme_cli_options::{Diagnostics, SpacesServeTask, SyncPolicy, WaitingPolicy};
 use rme_durable_server::{ServerSetting, WaitingJobs};
@@ -65,13 +65,25 @@ pub fn run_serve_spaces<R: Threads + Wait + Clock + Sync>(
         syncs: sync == SyncPolicy::Always,
         close_after,
     };
+    serve_bound(threads, listeners, &bound, &http, &context)
+}
+
+/// Says where the server listens, and serves until that ends.
+fn serve_bound<R: Threads + Wait + Clock + Sync>(
+    threads: &R,
+    listeners: (Listener, Option<Listener>),
+    bound: &BoundServer,
+    http: &Option<HttpPort>,
+    context: &SpacesContext<'_, '_>,
+) -> Result<u8, CliFault> {
+    let rt = context.rt;
     bound.addresses.print(rt)?;
-    let served = match &http {
+    let served = match http {
         Some(http) => {
             http.print(rt)?;
-            serve_with_pages(threads, listeners, &bound.acceptor, http, &context)
+            serve_with_pages(threads, listeners, &bound.acceptor, http, context)
         }
-        None => serve_all_spaces(threads, listeners, &bound.acceptor, &context),
+        None => serve_all_spaces(threads, listeners, &bound.acceptor, context),
     };
     bound.addresses.clear(rt);
     match served {
