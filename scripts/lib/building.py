@@ -38,10 +38,10 @@ SECONDS = {
     "rme_draw_history": 70, "rme_cli_lines": 80, "rme_cli_run": 49, "rme_session_world": 95, "rme_durable_log": 65,
     "rme_durable_format": 160, "rme_durable_epochs": 145, "rme_durable_checkpoint": 110, "rme_durable_lookups": 90,
     "rme_durable_server": 215,
-    "rme_process_file": 90, "rme_durable_file": 240, "rme_cli_listen": 70, "rme_cli_look": 260, "rme_cli_durable": 280, "rme_cli_state": 200,
+    "rme_process_file": 90, "rme_durable_file": 240, "rme_cli_listen": 150, "rme_cli_look": 260, "rme_cli_durable": 280, "rme_cli_state": 200,
     "rme_cli_commands": 180, "rme_cli": 300,
     "rme_cli_help": 15, "rme_metrics": 55, "rme_session_metrics": 38, "rme_session_keys": 70, "rme_session_spaces": 75,
-    "rme_durable_metrics": 15, "rme_replica_state": 35, "rme_cli_http": 65, "rme_cli_keys": 42, "rme_cli_cluster": 45,
+    "rme_durable_metrics": 15, "rme_replica_state": 35, "rme_cli_cluster": 45,
     "rme_cli_cluster_look": 45, "rme_cli_move": 195, "rme_cli_spaces": 350, "rme_cli_replica": 310,
 }  # fmt: skip
 # Side by side crates keep some 2.7 processors busy, if there are four. The longest chain takes about four fifths of

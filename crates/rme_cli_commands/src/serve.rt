@@ -8,9 +8,10 @@ ghost use Rattle.rme_cli_commands.specs.FinalReports.{FinalReportSays};
 use crate::final_report::{FinalReport, end_with, report_service};
 use log::sink::Console;
 use log::{Level, Logged, info};
-use rme_cli_http::{HttpPort, MeteredSite, ServicePages, serve_metered};
-use rme_cli_keys::{KeysFile, keyed, open_keys};
-use rme_cli_listen::{BoundServer, StderrObserver, listen};
+use rme_cli_listen::{
+    BoundServer, HttpPort, KeysFile, MeteredSite, ServicePages, StderrObserver, keyed, listen,
+    open_keys, serve_metered,
+};
 use rme_cli_messages::{CliFault, why_not_locks, why_not_sizes};
 use rme_cli_options::{Diagnostics, ListenAddresses, ServeTask, ServerLog};
 use rme_line_diagnose::SessionWords;

@@ -4,8 +4,8 @@
 //! there are some, and the file, or plans a new one, or what is to be added to it (`requested_state.rt`), binds its
 //! addresses, and opens the log. `serving.rt` serves a state wherever it lies: rme_cli_replica uses it too.
 //! `state_pages.rt` has what is shown over HTTP. The crate stands on rme_durable_server
-//! and the crates below it, on rme_durable_file for the file, on rme_cli_keys for the keys, on rme_cli_listen and
-//! rme_cli_http for the addresses, and on rme_cli_options and rme_cli_messages.
+//! and the crates below it, on rme_durable_file for the file, on rme_cli_listen for the keys, on rme_cli_listen and
+//! rme_cli_listen for the addresses, and on rme_cli_options and rme_cli_messages.
 #![tactic(auto)]
 
 mod log_of_state;

@@ -7,9 +7,7 @@ use crate::opening::open_grown;
 use crate::requested_state::{Growth, ServerConfig, first_lines, growth_of};
 use crate::server_request::{limits_of, setting_of, split_task};
 use crate::serving::{StateSite, serve_logged};
-use rme_cli_http::HttpPort;
-use rme_cli_keys::{KeysFile, open_keys};
-use rme_cli_listen::listen;
+use rme_cli_listen::{HttpPort, KeysFile, listen, open_keys};
 use rme_cli_messages::{BadArgument, CliFault, Stderr, escape_controls};
 use rme_cli_options::{DurableServeTask, ListenAddresses, ServerLog};
 use rme_durable_file::{

@@ -5,9 +5,10 @@ ghost use Rattle.rme_durable_server.specs.ServerHistories.{server_state};
 
 use crate::state_pages::StatePages;
 use crate::state_watch::StateWatch;
-use rme_cli_http::{HttpPort, MeteredSite, look_up_status, serve_metered};
-use rme_cli_keys::{KeysFile, keyed};
-use rme_cli_listen::{BoundServer, StderrObserver};
+use rme_cli_listen::{
+    BoundServer, HttpPort, KeysFile, MeteredSite, StderrObserver, keyed, look_up_status,
+    serve_metered,
+};
 use rme_cli_messages::CliFault;
 use rme_cli_options::ServerLog;
 use rme_durable_log::{LogStore, NotDurable};

@@ -1,7 +1,7 @@
 //! What a durable server shows over HTTP.
 
 use crate::state_watch::StateWatch;
-use rme_cli_http::{StatusText, look_up_status, state_metrics_text};
+use rme_cli_listen::{StatusText, look_up_status, state_metrics_text};
 use rme_durable_server::{DurableServer, LogStore, ServerTag};
 use rme_http::Pages;
 use rme_metrics::{LogCounters, ServerCounters};
@@ -23,8 +23,8 @@ pub(crate) struct StatePages<'a, L: LogStore, J: ServerTag, W> {
 
 impl<L: LogStore, J: ServerTag, W: StateWatch> Pages for StatePages<'_, L, J, W> {
     ghost use Rattle.std.specs.Prelude.{None};
-    ghost use Rattle.rme_cli_http.specs.MetricsTexts.{IsMetricsText};
-    ghost use Rattle.rme_cli_http.specs.StatusLookUps.{AnswersStatus};
+    ghost use Rattle.rme_cli_listen.specs.MetricsTexts.{IsMetricsText};
+    ghost use Rattle.rme_cli_listen.specs.StatusLookUps.{AnswersStatus};
     ghost use Rattle.rme_durable_server.specs.DurableAnswers.{DurableLineAnswer};
     ghost use Rattle.rme_durable_server.specs.DurableOrders.{client_terms};
     ghost use Rattle.rme_session_loop.specs.SessionRuns.{AnswersWhileOpen};

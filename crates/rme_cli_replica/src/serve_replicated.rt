@@ -14,9 +14,7 @@ use rme_cli_durable::{
     Growth, ServerConfig, StateSite, growth_of, limits_of, open_grown, serve_logged, setting_of,
     split_task,
 };
-use rme_cli_http::HttpPort;
-use rme_cli_keys::{KeysFile, open_keys};
-use rme_cli_listen::listen;
+use rme_cli_listen::{HttpPort, KeysFile, listen, open_keys};
 use rme_cli_messages::CliFault;
 use rme_cli_options::{EtcdPlace, LeaderSetting, ListenAddresses, ReplicatedServeTask, ServerLog};
 use rme_durable_file::{RecoveredFile, StateFile, StateName};

@@ -7,9 +7,9 @@ use crate::space_guest::SpaceGuest;
 use crate::space_pages::SpacesPages;
 use crate::space_server::{SPACE_STACK, SpacesContext, run_space};
 use crate::spaces_folder::SpacesFolder;
-use rme_cli_http::{HTTP_STACK, HttpPort};
-use rme_cli_keys::{KeysFile, open_keys};
-use rme_cli_listen::{BoundServer, StderrObserver, listen};
+use rme_cli_listen::{
+    BoundServer, HTTP_STACK, HttpPort, KeysFile, StderrObserver, listen, open_keys,
+};
 use rme_cli_messages::CliFault;
 use rme_cli_options::{Diagnostics, SpacesServeTask, SyncPolicy, WaitingPolicy};
 use rme_durable_server::{ServerSetting, WaitingJobs};

@@ -2,8 +2,7 @@
 
 use crate::space_guest::SpaceGuest;
 use crate::spaces_folder::SpacesFolder;
-use rme_cli_keys::KeysFile;
-use rme_cli_listen::StderrObserver;
+use rme_cli_listen::{KeysFile, StderrObserver};
 use rme_metrics::{LogCounters, ServerCounters};
 use rme_session_keys::Access;
 use rme_session_server::{AcceptedConnection, SharedObserver};

@@ -2,7 +2,7 @@
 
 use crate::space_guest::{SpaceGuest, StatusQuestion};
 use crate::space_server::SpacesContext;
-use rme_cli_http::{StatusText, state_metrics_text};
+use rme_cli_listen::{StatusText, state_metrics_text};
 use rme_http::Pages;
 use rme_space_orders::SpaceName;
 use rme_words::NoMemory;
@@ -20,7 +20,7 @@ pub(crate) struct SpacesPages<'v, 'a, 'g> {
 
 impl Pages for SpacesPages<'_, '_, '_> {
     ghost use Rattle.std.specs.Prelude.{⊤};
-    ghost use Rattle.rme_cli_http.specs.MetricsTexts.{IsMetricsText};
+    ghost use Rattle.rme_cli_listen.specs.MetricsTexts.{IsMetricsText};
 
     ghost metrics_texts = { λ _ _. IsMetricsText };
 
@@ -75,7 +75,7 @@ impl Pages for SpacesPages<'_, '_, '_> {
 
 impl SpacesPages<'_, '_, '_> {
     ghost use Rattle.std.specs.Prelude.{IfOk, IfSome, string_bytes};
-    ghost use Rattle.rme_cli_http.specs.MetricsTexts.{IsMetricsText};
+    ghost use Rattle.rme_cli_listen.specs.MetricsTexts.{IsMetricsText};
 
     /// The metrics of all sessions and logs; `None` if they are not counted.
     fn server_metrics(&self) -> Result<Option<String>, NoMemory>

@@ -4,7 +4,7 @@ use Rattle.std.specs.Io.KnownBytes.{Keeps}
 use Rattle.rme_line_io.specs.Pieces.{InputLine}
 use Rattle.rme_session_loop.specs.SessionRuns.{SessionWrites}
 use Rattle.rme_session_loop.specs.declared.session_loop.SessionEnd.{SessionEnd}
-use Rattle.rme_cli_http.specs.StatusLookUps.{AnswersStatus, status_line}
+use Rattle.rme_cli_listen.specs.StatusLookUps.{AnswersStatus, status_line}
 
 module _ {S : Type 0} (has : S → InputLine → List ℕ → S → Type 0) (nobody : S) (how : SessionEnd) (last : S)
     (ended : Option (List ℕ)) where

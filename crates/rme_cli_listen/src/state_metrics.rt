@@ -1,7 +1,7 @@
 //! The metrics of a state, by its status.
 
 ghost use Rattle.std.specs.Prelude.{IfOk, string_bytes};
-ghost use Rattle.rme_cli_http.specs.MetricsTexts.{IsMetricsText};
+ghost use Rattle.rme_cli_listen.specs.MetricsTexts.{IsMetricsText};
 
 use rme_ask_client::{ClientError, ReportedStance, ServerStatus, server_status};
 use rme_metrics::{

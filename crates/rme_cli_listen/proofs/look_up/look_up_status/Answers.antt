@@ -1,7 +1,7 @@
 use Rattle.std.proofs.Common.{Some, ap, sym}
 use Rattle.std.proofs.lemmas.Option.{IfSome_then}
-use Rattle.rme_cli_http.proofs.StatusLines.{wrote_status}
-use Rattle.rme_cli_http.proofs.look_up.look_up_status.Goals as goal
+use Rattle.rme_cli_listen.proofs.StatusLines.{wrote_status}
+use Rattle.rme_cli_listen.proofs.look_up.look_up_status.Goals as goal
 
 pub returns-in-Ok : goal.returns-in-Ok
 returns-in-Ok g c =

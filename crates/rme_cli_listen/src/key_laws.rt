@@ -1,7 +1,7 @@
 //! What callers know of the keys of a file.
 
 ghost use Rattle.std.specs.Prelude.{IfOk};
-ghost use Rattle.rme_cli_keys.specs.FileKeys.{AreOfText};
+ghost use Rattle.rme_cli_listen.specs.FileKeys.{AreOfText};
 ghost use Rattle.rme_session_keys.specs.KeyedAnswers.{FoundKey};
 
 use crate::keys_file::KeysFile;

@@ -2,10 +2,10 @@
 
 ghost use Rattle.std.specs.Prelude.{IfOk};
 ghost use Rattle.rme_keys.specs.Allowing.{keys_of};
-ghost use Rattle.rme_cli_keys.specs.FileKeys.{AreOfText};
+ghost use Rattle.rme_cli_listen.specs.FileKeys.{AreOfText};
 ghost use Rattle.rme_session_keys.specs.KeyedAnswers.{FoundKey};
 
-use crate::fault::KeysFault;
+use crate::keys_fault::KeysFault;
 use rme_cli_messages::Stderr;
 use rme_keys::{Key, Keys};
 use rme_session_keys::KeySource;
@@ -100,7 +100,7 @@ impl<'a> KeysFile<'a> {
 }
 
 impl KeySource for KeysFile<'_> {
-    ghost use Rattle.rme_cli_keys.specs.FileKeys.{AreOfText};
+    ghost use Rattle.rme_cli_listen.specs.FileKeys.{AreOfText};
 
     ghost had = { λ _. AreOfText };
 

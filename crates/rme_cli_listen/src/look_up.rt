@@ -1,7 +1,7 @@
 //! A look-up, asked of a backend as by a client.
 
 ghost use Rattle.std.specs.Prelude.{◌≡◌, IfOk, IfSome, string_bytes};
-ghost use Rattle.rme_cli_http.specs.StatusLookUps.{AnswersStatus};
+ghost use Rattle.rme_cli_listen.specs.StatusLookUps.{AnswersStatus};
 ghost use Rattle.rme_session_loop.specs.SessionRuns.{AnswersWhileOpen};
 
 use rme_session_loop::{Backend, Client, session};

@@ -1,7 +1,7 @@
 use Rattle.std.proofs.Common.{◌++◌, List, ℕ, ap, ◌∙◌}
 use Rattle.rme_metrics.specs.Metrics.{metrics_text}
 use Rattle.rme_metrics.specs.declared.snapshot.MetricsSnapshot.{MetricsSnapshot}
-use Rattle.rme_cli_http.proofs.state_metrics.metrics_of.Goals as goal
+use Rattle.rme_cli_listen.proofs.state_metrics.metrics_of.Goals as goal
 
 pub returns : goal.returns
 returns c =

@@ -16,7 +16,7 @@ pub struct ServicePages<'a> {
 }
 
 impl Pages for ServicePages<'_> {
-    ghost use Rattle.rme_cli_http.specs.MetricsTexts.{IsMetricsText};
+    ghost use Rattle.rme_cli_listen.specs.MetricsTexts.{IsMetricsText};
 
     ghost metrics_texts = { λ _ _. IsMetricsText };
 
