@@ -42,7 +42,7 @@ SECONDS = {
     "rme_cli_commands": 180, "rme_cli": 300,
     "rme_cli_help": 15, "rme_metrics": 55, "rme_session_metrics": 38, "rme_session_keys": 70, "rme_session_spaces": 75,
     "rme_durable_metrics": 15, "rme_replica_state": 35, "rme_cli_cluster": 45,
-    "rme_cli_cluster_look": 45, "rme_cli_move": 195, "rme_cli_spaces": 350, "rme_cli_replica": 310,
+    "rme_cli_cluster_state": 220, "rme_cli_spaces": 350, "rme_cli_replica": 310,
 }  # fmt: skip
 # Side by side crates keep some 2.7 processors busy, if there are four. The longest chain takes about four fifths of
 # its seconds (an estimate).

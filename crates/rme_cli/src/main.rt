@@ -1,17 +1,16 @@
 //! The program `rme`: a recoverable mutual exclusion lock service over lines, and over threads.
 //!
 //! rme_cli_options reads the words of the command line; rme_cli_lines, rme_cli_commands, rme_cli_durable,
-//! rme_cli_spaces, rme_cli_replica, rme_cli_cluster_look, rme_cli_move and rme_cli_ask execute the commands. This crate is small, since
-//! its code is checked against all crates of the program.
+//! rme_cli_spaces, rme_cli_replica, rme_cli_cluster_state and rme_cli_ask execute the commands. This crate is small,
+//! since its code is checked against all crates of the program.
 #![tactic(auto)]
 
 use rme_cli_ask::run_ask;
-use rme_cli_cluster_look::run_any_look;
+use rme_cli_cluster_state::{run_any_look, run_move};
 use rme_cli_commands::{run_draw, run_serve, run_threads};
 use rme_cli_durable::run_serve_durable;
 use rme_cli_lines::perform_lines;
 use rme_cli_messages::CliFault;
-use rme_cli_move::run_move;
 use rme_cli_options::{CliTask, ParsedCommandLine, finish_process, read_words};
 use rme_cli_replica::run_serve_replicated;
 use rme_cli_spaces::run_serve_spaces;
