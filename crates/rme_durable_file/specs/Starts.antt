@@ -35,9 +35,9 @@ pub record BeginsFrom (found : RecoveredState) (epoch : EpochState) : Type 0 whe
   pub nobody : epoch.executor.holders ≡ replicate found.log.world.shape.workers None
   pub works : epoch.failed ≡ false
 
--- A server begins with the state in the whole lines of a file, its lives among it, in which no session has a worker:
--- it crashes each worker that was up, and a line for each of these crashes is in the file behind the whole lines. It
--- counts all bytes of that file as the epoch's; the greatest `u64` if that is smaller.
+-- A server begins with the state in the whole lines of a file, its lives among it: a line for each crash with which its
+-- executor begins is in the file behind the whole lines. It counts all bytes of that file as the epoch's; the greatest
+-- `u64` if that is smaller.
 pub record BeginsServer (bytes : List ℕ) (names : List (List ℕ)) (epoch : EpochState) (after : List ℕ) : Type 0 where
   pub whole : ℕ
   pub found : RecoveredState

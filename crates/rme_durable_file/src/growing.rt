@@ -2,7 +2,8 @@
 
 ghost use Rattle.std.specs.Prelude.{◌≡◌, ℕ, [], List, IfOk, IsTrue, OnOk, true};
 ghost use Rattle.rme_durable_file.specs.DiskFiles.{AppendsToFile};
-ghost use Rattle.rme_durable_file.specs.Growths.{GrowsState, KeepsNames, LeavesLocks, ReplacesByLargerEpoch, file_epoch};
+ghost use Rattle.rme_durable_file.specs.Growths.{GrowsState, KeepsNames, LeavesLocks};
+ghost use Rattle.rme_durable_file.specs.Growths.{ReplacesByLargerEpoch, file_epoch};
 
 use crate::faults::{not_grown_fault, write_fault};
 use crate::start::OpenedState;
