@@ -9,7 +9,7 @@ pub use rme_line_diagnose::Reason;
 pub use rme_line_text::ClientReceipt;
 pub use rme_server::{
     Acceptor, AnswerError, AttemptError, Backend, Buffers, Client, CloseHandle, Closer, Connection,
-    FirstReply, Holding, Listener, LocalClient, NoCloseHandle, OrderAttempts, OrderRun,
+    FirstReply, Holding, Listener, Listeners, LocalClient, NoCloseHandle, OrderAttempts, OrderRun,
     PlannedCrash, ServeFault, ServerLimits, ServerObserver, ServiceBackend, SessionEvent,
     SessionRegistry, Slots, Stand, TakenWorker, obey, serve, session,
 };

@@ -16,7 +16,7 @@ use rme_cli_messages::{CliFault, why_not_locks, why_not_sizes};
 use rme_cli_options::{Diagnostics, ListenAddresses, ServeTask, ServerLog};
 use rme_line_diagnose::SessionWords;
 use rme_metrics::ServerCounters;
-use rme_server::{Listener, ServeFault, ServerLimits, SessionRegistry, Slots};
+use rme_server::{Listeners, ServeFault, ServerLimits, SessionRegistry, Slots};
 use rme_table::{CountRoom, Down, Service, Tag};
 use rme_wire::{GivenNames, Names};
 use rme_words::Shape;
@@ -86,7 +86,7 @@ fn listen_with<'a>(
     ports: ServerPorts,
     keys: Option<KeysFile<'a>>,
     names: &'a Names,
-) -> Result<(ServeContext<'a>, (Listener, Option<Listener>)), CliFault> {
+) -> Result<(ServeContext<'a>, Listeners), CliFault> {
     let ServerPorts {
         places,
         http,
@@ -165,7 +165,7 @@ impl ServeContext<'_> {
 fn serve_workers<R: Threads + Wait + Clock + Sync>(
     threads: &R,
     host: &ServeContext<'_>,
-    listeners: (Listener, Option<Listener>),
+    listeners: Listeners,
     shape: Shape,
 ) -> Result<u8, CliFault> {
     let (service, downs) = Service::new(host.rt.alloc(), shape)?;
@@ -208,7 +208,7 @@ fn close(
 fn serve_all<'s, K: Tag + Send + Sync, R: Threads + Wait + Clock + Sync>(
     threads: &R,
     host: &'s ServeContext<'s>,
-    listeners: (Listener, Option<Listener>),
+    listeners: Listeners,
     service: &'s Service,
     downs: Vec<Down>,
 ) -> Result<(Vec<Down>, Result<(), ServeFault>), CliFault>

@@ -16,7 +16,7 @@ use rme_durable_file::{
 };
 use rme_durable_server::ServerSetting;
 use rme_metrics::LogCounters;
-use rme_session_server::{Listener, ServerLimits};
+use rme_session_server::{Listeners, ServerLimits};
 use std::marker::Brand;
 use std::sync::Wait;
 use std::thread::Threads;
@@ -120,8 +120,6 @@ impl DurableStart<'_> {
         }
     }
 }
-
-type Listeners = (Listener, Option<Listener>);
 
 /// Serves a state whose file was opened.
 fn serve_opened<'a, R: Threads + Wait + Clock + Sync>(

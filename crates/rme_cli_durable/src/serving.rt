@@ -18,7 +18,7 @@ use rme_line_diagnose::Reason;
 use rme_line_io::ServeFault;
 use rme_metrics::{LogCounters, ServerCounters};
 use rme_session_loop::{Backend, SessionEvent};
-use rme_session_server::{Closer, Listener, ServerObserver};
+use rme_session_server::{Closer, Listeners, ServerObserver};
 use std::io;
 use std::sync::Wait;
 use std::thread::Threads;
@@ -67,7 +67,7 @@ pub fn serve_logged<
 >(
     threads: &R,
     site: &StateSite<'_, W>,
-    listeners: (Listener, Option<Listener>),
+    listeners: Listeners,
     state: StateAndLog<L>,
 ) -> Result<u8, CliFault>
     requires log { state.log ≡ J.book }
@@ -92,7 +92,7 @@ fn serve_durable_state<
 >(
     threads: &R,
     site: &StateSite<'_, W>,
-    listeners: (Listener, Option<Listener>),
+    listeners: Listeners,
     kept: &DurableServer<L, Closer, J>,
     workers: u32,
 ) -> Result<u8, CliFault> {
@@ -128,7 +128,7 @@ fn serve_clients<
 >(
     threads: &R,
     site: &'x StateSite<'x, W>,
-    listeners: (Listener, Option<Listener>),
+    listeners: Listeners,
     observer: &'x StateObserver<'x, L, J, W, R>,
     workers: u32,
 ) -> Result<(), ServeFault> {

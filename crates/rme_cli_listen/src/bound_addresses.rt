@@ -3,7 +3,7 @@
 use crate::socket::{SocketFile, listen_at, remove};
 use rme_cli_messages::{CliFault, escape_controls};
 use rme_cli_options::ListenAddresses;
-use rme_session_server::{Acceptor, Listener, ServerLimits};
+use rme_session_server::{Acceptor, Listener, Listeners, ServerLimits};
 use std::alloc::{AllocError, Global};
 use std::io;
 use std::io::ErrorKind;
@@ -70,7 +70,7 @@ pub fn listen(
     rt: &HostRuntime,
     places: ListenAddresses,
     limits: ServerLimits,
-) -> Result<((Listener, Option<Listener>), BoundServer), CliFault> {
+) -> Result<(Listeners, BoundServer), CliFault> {
     let (listeners, addresses) = bind_all(rt, places)?;
     match Acceptor::new(rt.alloc(), &listeners, limits) {
         Ok(acceptor) => {
@@ -91,23 +91,31 @@ pub fn listen(
 fn bind_all(
     rt: &HostRuntime,
     places: ListenAddresses,
-) -> Result<((Listener, Option<Listener>), BoundAddresses), CliFault> {
+) -> Result<(Listeners, BoundAddresses), CliFault> {
     match places {
         ListenAddresses::Port(port) => {
             let (listener, port) = listen_on(rt, port)?;
-            Ok(((listener, None), bound_to(Some(port), None)))
+            Ok((one(listener), bound_to(Some(port), None)))
         }
         ListenAddresses::Socket(path) => {
             let (listener, file) = listen_at(rt, path)?;
-            Ok(((Listener::Unix(listener), None), bound_to(None, Some(file))))
+            Ok((one(Listener::Unix(listener)), bound_to(None, Some(file))))
         }
         ListenAddresses::Both(port, path) => {
-            let (listener, port) = listen_on(rt, port)?;
+            let (first, port) = listen_on(rt, port)?;
             let (other, file) = listen_at(rt, path)?;
-            let listeners = (listener, Some(Listener::Unix(other)));
+            let listeners = Listeners {
+                first,
+                other: Some(Listener::Unix(other)),
+            };
             Ok((listeners, bound_to(Some(port), Some(file))))
         }
     }
+}
+
+/// A single listener.
+fn one(first: Listener) -> Listeners {
+    Listeners { first, other: None }
 }
 
 fn bound_to(port: Option<u16>, file: Option<SocketFile>) -> BoundAddresses {

@@ -6,7 +6,7 @@ use rme_line_io::ServeFault;
 use rme_metrics::ServerCounters;
 use rme_session_loop::Backend;
 use rme_session_metrics::MeteredBackend;
-use rme_session_server::{Acceptor, Closer, Listener, ServerObserver, serve};
+use rme_session_server::{Acceptor, Closer, Listeners, ServerObserver, serve};
 use std::sync::{Arc, Wait};
 use std::thread;
 use std::thread::{Builder, Threads};
@@ -35,7 +35,7 @@ pub fn serve_metered<
     P: Pages + Sync,
 >(
     threads: &R,
-    listeners: (Listener, Option<Listener>),
+    listeners: Listeners,
     site: &MeteredSite<'_, T, P>,
     backend: &B,
 ) -> Result<(), ServeFault>

@@ -23,7 +23,7 @@ use rme_etcd::EtcdFault;
 use rme_metrics::LogCounters;
 use rme_replica::Claimant;
 use rme_replica_state::{ReadFault, ReplicaState};
-use rme_session_server::{Listener, ServerLimits};
+use rme_session_server::{Listeners, ServerLimits};
 use std::alloc::{AllocError, Global};
 use std::marker::Brand;
 use std::sync::Wait;
@@ -87,8 +87,6 @@ type FoundState<'a> = RecoveredFile<'a, ReplicaState<NotedEngine<'a>>>;
 
 /// A server that leads a log.
 type LeadSite<'a> = StateSite<'a, LeadWatch<'a>>;
-
-type Listeners = (Listener, Option<Listener>);
 
 impl LeadRequest<'_> {
     /// Stands by until it leads, and serves.

@@ -18,7 +18,7 @@ use rme_line_io::ServeFault;
 use rme_session_keys::{Access, KeyedBackend, KeyedStand};
 use rme_session_loop::Backend;
 use rme_session_server::{
-    AcceptedConnection, Acceptor, ConnectionHandler, Listener, ServerLimits, SharedObserver,
+    AcceptedConnection, Acceptor, ConnectionHandler, Listeners, ServerLimits, SharedObserver,
     serve_connections,
 };
 use rme_session_spaces::{
@@ -71,7 +71,7 @@ pub fn run_serve_spaces<R: Threads + Wait + Clock + Sync>(
 /// Says where the server listens, and serves until that ends.
 fn serve_bound<R: Threads + Wait + Clock + Sync>(
     threads: &R,
-    listeners: (Listener, Option<Listener>),
+    listeners: Listeners,
     bound: &BoundServer,
     http: &Option<HttpPort>,
     context: &SpacesContext<'_, '_>,
@@ -146,7 +146,7 @@ fn setting_of(task: &SpacesServeTask) -> ServerSetting {
 /// Serves the connections, the spaces that their sessions use, and the pages on the HTTP port.
 fn serve_with_pages<'g, R: Threads + Wait + Clock + Sync>(
     threads: &R,
-    listeners: (Listener, Option<Listener>),
+    listeners: Listeners,
     acceptor: &Arc<Acceptor>,
     http: &HttpPort,
     context: &SpacesContext<'_, 'g>,
@@ -175,7 +175,7 @@ fn serve_with_pages<'g, R: Threads + Wait + Clock + Sync>(
 /// Serves the connections, and the spaces that their sessions use.
 fn serve_all_spaces<'g, R: Threads + Wait + Clock + Sync>(
     threads: &R,
-    listeners: (Listener, Option<Listener>),
+    listeners: Listeners,
     acceptor: &Arc<Acceptor>,
     context: &SpacesContext<'_, 'g>,
 ) -> Result<(), ServeFault> {

@@ -17,7 +17,7 @@ pub use rme_session_loop::{
     WorkerClaim, session,
 };
 pub use rme_session_server::{
-    Acceptor, Closer, Connection, Listener, ServerLimits, ServerObserver, serve,
+    Acceptor, Closer, Connection, Listener, Listeners, ServerLimits, ServerObserver, serve,
 };
 pub use rme_session_threads::{CrashPlan, Holding, PlannedCrash, Slots, Stand, TakenWorker, obey};
 pub use service_backend::ServiceBackend;

@@ -1,7 +1,7 @@
 //! The acceptor of a server: its limits, its counts, and its open connections.
 
 use crate::accepted_connection::AcceptedConnection;
-use crate::connection::{Closer, Connection, Listener};
+use crate::connection::{Closer, Connection, Listener, Listeners};
 use crate::open_connections::OpenConnections;
 use crate::server::ServerObserver;
 use rme_line_diagnose::SessionWords;
@@ -64,17 +64,16 @@ impl Acceptor {
     /// closer can't be had.
     pub fn new(
         alloc: Global,
-        listeners: &(Listener, Option<Listener>),
+        listeners: &Listeners,
         limits: ServerLimits,
     ) -> Result<Arc<Acceptor>, ServeFault> {
-        let (listener, other) = listeners;
         let acceptor = Acceptor {
             limits,
             alloc,
             taken: AtomicU64::new(0),
             running: AtomicU64::new(0),
             connections: OpenConnections::new(alloc),
-            closers: closers_of(listener, other)?,
+            closers: closers_of(listeners)?,
             has_ended: Mutex::new(false),
             ended: Condvar::new(),
         };
@@ -209,12 +208,9 @@ impl Acceptor {
 }
 
 /// The closers of these listeners.
-fn closers_of(
-    listener: &Listener,
-    other: &Option<Listener>,
-) -> Result<(Closer, Option<Closer>), ServeFault> {
-    let closer = closer_of(listener)?;
-    match other {
+fn closers_of(listeners: &Listeners) -> Result<(Closer, Option<Closer>), ServeFault> {
+    let closer = closer_of(&listeners.first)?;
+    match &listeners.other {
         Some(other) => Ok((closer, Some(closer_of(other)?))),
         None => Ok((closer, None)),
     }

@@ -166,6 +166,13 @@ impl Listener {
     }
 }
 
+/// The listeners of a server: one, or two.
+#[derive(Drop)]
+pub struct Listeners {
+    pub first: Listener,
+    pub other: Option<Listener>,
+}
+
 /// Closes a listener or a connection from another thread.
 #[derive(Drop)]
 pub struct Closer {

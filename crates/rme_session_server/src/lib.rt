@@ -17,6 +17,6 @@ mod server;
 
 pub use accepted_connection::AcceptedConnection;
 pub use acceptor::{Acceptor, ServerLimits};
-pub use connection::{Closer, Connection, Listener};
+pub use connection::{Closer, Connection, Listener, Listeners};
 pub use connection_handler::ConnectionHandler;
 pub use server::{ServerObserver, SharedObserver, serve, serve_connections};

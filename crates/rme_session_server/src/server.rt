@@ -1,7 +1,7 @@
 //! A server: each connection that it accepts is handled in a thread of its own.
 
 use crate::acceptor::{Accepted, Acceptor};
-use crate::connection::{Closer, Connection, Listener};
+use crate::connection::{Closer, Connection, Listener, Listeners};
 use crate::connection_handler::{ConnectionHandler, SessionHandler};
 use rme_line_diagnose::Reason;
 use rme_line_io::ServeFault;
@@ -95,7 +95,7 @@ pub fn serve<
     T: ServerObserver + Sync,
 >(
     rt: &R,
-    listeners: (Listener, Option<Listener>),
+    listeners: Listeners,
     acceptor: &Arc<Acceptor>,
     trouble: &T,
     backend: &B,
@@ -116,7 +116,7 @@ pub fn serve_connections<
     T: ServerObserver + Copy + Send + Sync,
 >(
     rt: &R,
-    listeners: (Listener, Option<Listener>),
+    listeners: Listeners,
     acceptor: &Arc<Acceptor>,
     observer: &T,
     handler: &H,
@@ -164,16 +164,12 @@ fn accept_all<
     H: ConnectionHandler<T> + Sync,
     R: Threads + Wait + Clock + Sync,
     T: ServerObserver + Copy + Send + Sync,
->(
-    rt: &R,
-    listeners: (Listener, Option<Listener>),
-    server: &ServerContext<'_, H, T>,
-) -> Result<(), ServeFault>
+>(rt: &R, listeners: Listeners, server: &ServerContext<'_, H, T>) -> Result<(), ServeFault>
     requires fits { H.fits server.now.handler.now }
 {
-    let (listener, other) = listeners;
+    let Listeners { first, other } = listeners;
     let Some(other) = other else {
-        return accept_loop(rt, listener, server);
+        return accept_loop(rt, first, server);
     };
     thread::scope(
         thread::scope_env(),
@@ -187,7 +183,7 @@ fn accept_all<
             let Ok(beside) = Builder::new().stack_size(STACK).spawn_scoped(scope, beside) else {
                 return Err(ServeFault::NoThread);
             };
-            let ended = accept_loop(rt, listener, server);
+            let ended = accept_loop(rt, first, server);
             ended.and(beside.join(rt))
         },
     )
