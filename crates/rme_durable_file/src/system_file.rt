@@ -270,17 +270,13 @@ impl SystemFile<'_> {
         if lines.is_empty() {
             return Ok(());
         }
-        let bytes = if self.is_sealed {
-            if let Err(why) = self.sealer.seal(lines, &mut self.write) {
-                return Err(seal_error(why));
-            }
-            self.write.as_slice()
-        } else {
-            lines
-        };
-        self.file.write_all_at(bytes, self.length)?;
-        self.length = self.length.saturating_add(bytes.len() as u64);
-        Ok(())
+        if !self.is_sealed {
+            return write_at(&self.file, &mut self.length, lines);
+        }
+        match self.sealer.seal(lines, &mut self.write) {
+            Ok(()) => write_at(&self.file, &mut self.length, self.write.as_slice()),
+            Err(why) => Err(seal_error(why)),
+        }
     }
 
     /// Writes zeros behind the log, if it has filled the room that was made before. The disk has a write to blocks that
@@ -316,6 +312,13 @@ impl SystemFile<'_> {
         }
         Ok(())
     }
+}
+
+/// Writes bytes at this place of a file. The place is behind them then.
+fn write_at(file: &File, place: &mut u64, bytes: &[u8]) -> io::Result<()> {
+    file.write_all_at(bytes, *place)?;
+    *place = place.saturating_add(bytes.len() as u64);
+    Ok(())
 }
 
 /// The error of lines that were not made a write.
