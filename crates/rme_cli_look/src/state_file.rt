@@ -154,9 +154,12 @@ fn push_refused_state(
     why: NoStateFault,
     form: OutputFormat,
 ) -> Result<u8, CliFault> {
+    if form != OutputFormat::Check {
+        return Err(why.into_fault());
+    }
     match why {
-        NoStateFault::Line(line, _) if form == OutputFormat::Check => push_refused_line(out, line),
-        why => Err(why.into_fault()),
+        NoStateFault::Line(line, _) => push_refused_line(out, line),
+        NoStateFault::Other(fault) => Err(fault),
     }
 }
 
